@@ -1,0 +1,5 @@
+pub mod Buffers
+pub mod Numbers
+pub mod Returns
+pub mod Exact
+pub mod Start
