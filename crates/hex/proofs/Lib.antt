@@ -1,0 +1,5 @@
+mod Spelling
+mod Going
+mod Telling
+mod Keeping
+mod Showing
