@@ -1,0 +1,5 @@
+pub mod Images
+pub mod Readings
+pub mod Inputs
+pub mod Panels
+pub mod Passing
