@@ -1,8 +1,11 @@
 // The console's state, and what it answers.
+use crate::cargoes::image_of_panel;
+use crate::cargoes::image_of_reading;
+use crate::cargoes::read;
 use crate::plans::AnyPlan;
 use crate::plans::AnySlotPlan;
-use crate::words::Line;
 use crate::words::Request;
+use crate::words::Script;
 use frame::Direction;
 use frame::Fault;
 use frame::FaultDisplay;
@@ -47,10 +50,10 @@ impl Console {
 
     // Runs one line of the script.
     pub fn run(&mut self, number: u64, line: &[u8], out: &mut Out) -> io::Result<()> {
-        match Line::of(line) {
-            Line::Skipped => Ok(()),
-            Line::NotUnderstood => writeln!(out, "{number}: not understood"),
-            Line::Command(request) => self.answer(number, request, out),
+        match Script::of(line) {
+            Script::Skipped => Ok(()),
+            Script::NotUnderstood => writeln!(out, "{number}: not understood"),
+            Script::Command(request) => self.answer(number, request, out),
         }
     }
 
@@ -81,6 +84,18 @@ impl Console {
                 Some(plan) => holder(number, plan, t, out),
                 None => no_plan(number, out),
             },
+            Request::ImageOfReading { value, quality } => image_of_reading(
+                number,
+                value,
+                quality,
+                out,
+            ),
+            Request::ImageOfPanel(inputs) => image_of_panel(number, inputs, out),
+            Request::Read {
+                kind,
+                source,
+                octets,
+            } => read(number, kind, source, &octets, out),
         }
     }
 

@@ -1,4 +1,5 @@
 // The console: runs a script from standard input, one command a line, and prints the answers.
+mod cargoes;
 mod console;
 mod plans;
 mod words;

@@ -1,11 +1,16 @@
 // The words of a line, and the command that they make.
+use crate::cargoes::Inputs;
+use crate::cargoes::Kind;
+use crate::cargoes::Source;
+use hex::HexLine;
+use hex::Line;
 use plan::Grant;
 use plan::Numbers;
 use std::str::SplitWhitespace;
 use std::str::from_utf8;
 
 // A command of the script.
-#[derive(Clone, Copy)]
+#[derive(Drop)]
 pub enum Request {
     // Starts a listed plan with these numbers.
     Listed(Numbers),
@@ -25,11 +30,24 @@ pub enum Request {
     Timetable,
     // Asks who holds a timeslot.
     Holder(u8),
+    // Prints the image of a reading.
+    ImageOfReading {
+        value: i32,
+        quality: u8,
+    },
+    // Prints the image of a panel, whose inputs are 0s and 1s.
+    ImageOfPanel(Inputs),
+    // Reads octets as cargo of a kind.
+    Read {
+        kind: Kind,
+        source: Source,
+        octets: HexLine,
+    },
 }
 
 // A line of the script.
-#[derive(Clone, Copy)]
-pub enum Line {
+#[derive(Drop)]
+pub enum Script {
     // Empty, or a comment.
     Skipped,
     // No command.
@@ -37,21 +55,21 @@ pub enum Line {
     Command(Request),
 }
 
-impl Line {
+impl Script {
     // What a line is. A word that starts with `#` starts a comment.
-    pub fn of(bytes: &[u8]) -> Line {
+    pub fn of(bytes: &[u8]) -> Script {
         let Ok(text) = from_utf8(bytes) else {
-            return Line::NotUnderstood;
+            return Script::NotUnderstood;
         };
         let mut words = Words {
             rest: text.split_whitespace(),
         };
         let Some(command) = words.word() else {
-            return Line::Skipped;
+            return Script::Skipped;
         };
         match words.request(command) {
-            Some(request) if words.word().is_none() => Line::Command(request),
-            _ => Line::NotUnderstood,
+            Some(request) if words.word().is_none() => Script::Command(request),
+            _ => Script::NotUnderstood,
         }
     }
 }
@@ -115,6 +133,59 @@ impl<'a> Words<'a> {
         })
     }
 
+    // The cargo whose image is asked for.
+    fn image(&mut self) -> Option<Request> {
+        match self.kind()? {
+            Kind::Reading => Some(Request::ImageOfReading {
+                value: signed(self.word()?)?,
+                quality: self.small()?,
+            }),
+            Kind::Panel => Some(Request::ImageOfPanel(inputs(self.word()?)?)),
+        }
+    }
+
+    // What is to be read: the octets are all words up to the end.
+    fn read(&mut self, source: Source) -> Option<Request> {
+        let kind = self.kind()?;
+        let mut octets = HexLine::new();
+        match self.word()? {
+            "-" => {}
+            first => {
+                push(&mut octets, first);
+                self.push_rest(&mut octets);
+            }
+        }
+        match octets.told() {
+            Line::NotOctets => None,
+            _ => Some(Request::Read {
+                kind,
+                source,
+                octets,
+            }),
+        }
+    }
+
+    // Pushes every word up to the end of the line or a comment.
+    fn push_rest(&mut self, octets: &mut HexLine) {
+        for word in &mut self.rest {
+            if word.as_bytes()[0] == b'#' {
+                break;
+            }
+            octets.push(b' ');
+            push(octets, word);
+        }
+        self.rest = "".split_whitespace();
+    }
+
+    // A kind of cargo.
+    fn kind(&mut self) -> Option<Kind> {
+        match self.word()? {
+            "reading" => Some(Kind::Reading),
+            "panel" => Some(Kind::Panel),
+            _ => None,
+        }
+    }
+
     // A command and the words that it takes.
     fn request(&mut self, command: &str) -> Option<Request> {
         match command {
@@ -130,9 +201,47 @@ impl<'a> Words<'a> {
             }),
             "timetable" => Some(Request::Timetable),
             "holder" => Some(Request::Holder(self.small()?)),
+            "image" => self.image(),
+            "read" => self.read(Source::Image),
+            "receive" => self.read(Source::Frame),
             _ => None,
         }
     }
+}
+
+// Pushes the characters of a word.
+fn push(octets: &mut HexLine, word: &str) {
+    for byte in word.bytes() {
+        octets.push(byte);
+    }
+}
+
+// A decimal number with or without a minus sign.
+fn signed(word: &str) -> Option<i32> {
+    match word.as_bytes().first() {
+        Some(b'+') => None,
+        _ => word.parse::<i32>().ok(),
+    }
+}
+
+// The inputs that a word of 0s and 1s switches.
+fn inputs(word: &str) -> Option<Inputs> {
+    let mut switches = [false; 64];
+    for (k, byte) in word.bytes().enumerate() {
+        match byte {
+            b'0' => {}
+            b'1' => {
+                if k < 64 {
+                    switches[k] = true;
+                }
+            }
+            _ => return None,
+        }
+    }
+    Some(Inputs {
+        switches,
+        count: word.len(),
+    })
 }
 
 // A word that does not start with a sign.
