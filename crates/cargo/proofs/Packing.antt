@@ -1,7 +1,7 @@
 -- Inputs in octets: the image of a panel is the number of its inputs, and then the octets of the number that they are, lowest first.
-use mathlib.Core.Path.{_≡_, refl, sym, ap, subst, _∙_}
-use mathlib.Core.Bool.{Bool, true, false, cond}
-use mathlib.Core.List.{List, [], _∷_, _++_}
+use mathlib.Core.Path.{_≡_, refl, sym, ap, _∙_}
+use mathlib.Core.Bool.{Bool, false}
+use mathlib.Core.List.{List, _∷_}
 use Prim.Native.Nat.{ℕ, zero, suc, _+_, _-_, _*_, _/_, _%_, _^_, _≤_, _<_}
 use native.Mathlib.Nat.{pow-suc, pow-succ', pow-le-pow-right}
 use native.Mathlib.Numerals.{one-add}
@@ -10,8 +10,7 @@ use lib.ListN.{length, getD, take, drop}
 use lib.Seq.{drop-cons}
 use Rattle.std.proofs.shelf.Bits.{pow-add}
 use Rattle.std.proofs.shelf.Lists.{getD-take, getD-drop, length-take, drop-drop}
-use Rattle.frame.specs.Octets.{bits, octet, value, little}
-use Rattle.frame.proofs.Numbers.{value-little}
+use Rattle.frame.specs.Octets.{octet, little}
 use Rattle.cargo.specs.Inputs.{bit, number, inputs-in, octets-for, packed, panel-image, Laid-out}
 use Rattle.cargo.proofs.Inputs.{length-inputs-in, number-inputs-in, number-below, number-bit, number-split}
 

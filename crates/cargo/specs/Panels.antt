@@ -10,6 +10,7 @@ use Rattle.cargo.specs.Inputs.{inputs-in, panel-image}
 abbrev pub inputs-of : Panel → List Bool
 inputs-of p = inputs-in (p .count) (p .inputs)
 
+-- the image of a panel
 abbrev pub image-of : Panel → List ℕ
 image-of p = panel-image (inputs-of p)
 

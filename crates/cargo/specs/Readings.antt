@@ -18,5 +18,6 @@ complement (negsuc n) = 2 ^ 32 - suc n
 abbrev pub reading-image : ℤ → ℕ → List ℕ
 reading-image value quality = little 4 (complement value) ++ quality ∷ []
 
+-- the image of a reading
 abbrev pub image-of : Reading → List ℕ
 image-of r = reading-image (told r .0) (told r .1)

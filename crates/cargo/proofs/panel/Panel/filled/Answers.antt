@@ -1,7 +1,7 @@
 use mathlib.Core.Path.{sym, ap, _∙_}
 use Prim.Native.Nat.{ℕ, _+_}
 use native.Mathlib.Omega.{arith}
-use Rattle.cargo.specs.Inputs.{octets-for, inputs-in}
+use Rattle.cargo.specs.Inputs.{octets-for}
 use Rattle.cargo.specs.Panels.{inputs-of}
 use Rattle.cargo.proofs.Packing.{image-length}
 use Rattle.cargo.proofs.panel.Panel.filled.Needs as need

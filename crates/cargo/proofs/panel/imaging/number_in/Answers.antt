@@ -1,10 +1,10 @@
 use mathlib.Core.Path.{_≡_, refl}
-use Prim.Native.Nat.{ℕ, _-_, _*_, _+_, _^_, _<_}
+use Prim.Native.Nat.{_-_, _<_}
 use native.Mathlib.Omega.{arith}
-use lib.ListN.{length, drop}
+use lib.ListN.{length}
 use lib.Dec.{lit<}
 use Rattle.std.proofs.shelf.Lists.{drop-all}
-use Rattle.frame.specs.Octets.{octet, little}
+use Rattle.frame.specs.Octets.{octet}
 use Rattle.cargo.proofs.Packing.{little-step, below-step, below-seven}
 use Rattle.cargo.proofs.panel.imaging.number_in.Needs as need
 

@@ -1,4 +1,4 @@
-use mathlib.Core.Path.{_≡_, sym, _∙_}
+use mathlib.Core.Path.{sym, _∙_}
 use Rattle.std.proofs.shelf.Tests.{ltb-true, ltb-false}
 use Rattle.cargo.proofs.Inputs.{length-inputs-in}
 use Rattle.cargo.proofs.Panels.{not-sized, not-unused, sized}

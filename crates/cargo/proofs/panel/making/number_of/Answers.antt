@@ -4,7 +4,7 @@ use native.Mathlib.Omega.{arith}
 use lib.Bits.{bitOr}
 use Rattle.std.proofs.shelf.Bits.{one-shl}
 use Rattle.std.proofs.shelf.Lists.{take-all}
-use Rattle.cargo.specs.Inputs.{number, inputs-in}
+use Rattle.cargo.specs.Inputs.{number}
 use Rattle.cargo.proofs.Inputs.{step-on, step-off, number-below, inputs-in-number}
 use Rattle.cargo.proofs.panel.making.number_of.Needs as need
 use Rattle.cargo.proofs.panel.making.number_of.Needs.{then-on, else-on}
