@@ -1,0 +1,3 @@
+pub mod Bitmaps
+pub mod Starts
+pub mod Laws
