@@ -82,13 +82,18 @@ pub fn read(
     line: &HexLine,
     out: &mut Out,
 ) -> io::Result<()> {
-    let octets: &[u8] = match line.told() {
-        Line::Octets(octets) => octets,
-        _ => &[],
-    };
+    let octets = octets_of(line);
     match kind {
         Kind::Reading => reading(number, taken::<Reading>(source, octets), out),
         Kind::Panel => panel(number, taken::<Panel>(source, octets), out),
+    }
+}
+
+// The octets of a line, none where it has none.
+pub fn octets_of(line: &HexLine) -> &[u8] {
+    match line.told() {
+        Line::Octets(octets) => octets,
+        _ => &[],
     }
 }
 

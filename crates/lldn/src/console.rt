@@ -1,9 +1,13 @@
 // The console's state, and what it answers.
 use crate::cargoes::image_of_panel;
 use crate::cargoes::image_of_reading;
+use crate::cargoes::octets_of;
 use crate::cargoes::read;
 use crate::plans::AnyPlan;
 use crate::plans::AnySlotPlan;
+use crate::repeating::Heard;
+use crate::repeating::repeats;
+use crate::repeating::sender_at;
 use crate::words::Request;
 use crate::words::Script;
 use frame::Direction;
@@ -11,6 +15,7 @@ use frame::Fault;
 use frame::FaultDisplay;
 use hex::Hex;
 use hex::HexDisplay;
+use hex::HexLine;
 use plan::EvenPlan;
 use plan::Grant;
 use plan::ListedPlan;
@@ -36,6 +41,8 @@ pub struct Console {
     draft: Option<Numbers>,
     grants: Vec<Grant>,
     plan: Option<AnyPlan>,
+    // The last bitmap that fitted that plan.
+    heard: Option<Heard>,
 }
 
 impl Console {
@@ -45,6 +52,7 @@ impl Console {
             draft: None,
             grants: Vec::new(heap),
             plan: None,
+            heard: None,
         }
     }
 
@@ -84,6 +92,8 @@ impl Console {
                 Some(plan) => holder(number, plan, t, out),
                 None => no_plan(number, out),
             },
+            Request::Repeats(octets) => self.repeat(number, &octets, out),
+            Request::Sender(t) => self.send(number, t, out),
             Request::ImageOfReading { value, quality } => image_of_reading(
                 number,
                 value,
@@ -124,10 +134,36 @@ impl Console {
         }
     }
 
+    // Tells who repeats where by a bitmap, and keeps it if it fits.
+    fn repeat(&mut self, number: u64, octets: &HexLine, out: &mut Out) -> io::Result<()> {
+        let Some(plan) = &self.plan else {
+            return no_plan(number, out);
+        };
+        match Heard::of(octets_of(octets), plan.numbers()) {
+            Some(heard) => {
+                self.heard = Some(heard);
+                repeats(number, plan, &heard, out)
+            }
+            None => writeln!(out, "{number}: misfit"),
+        }
+    }
+
+    // Tells whose frame starts at a timeslot by the bitmap that was kept.
+    fn send(&self, number: u64, t: u8, out: &mut Out) -> io::Result<()> {
+        let Some(plan) = &self.plan else {
+            return no_plan(number, out);
+        };
+        match &self.heard {
+            Some(heard) => sender_at(number, plan, heard, t, out),
+            None => writeln!(out, "{number}: no bitmap"),
+        }
+    }
+
     // Takes a plan for the one that is asked from now on.
     fn accept(&mut self, number: u64, plan: AnyPlan, out: &mut Out) -> io::Result<()> {
         let count = plan.count();
         self.plan = Some(plan);
+        self.heard = None;
         writeln!(out, "{number}: accepted with {count} grants")
     }
 }

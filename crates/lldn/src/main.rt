@@ -2,6 +2,7 @@
 mod cargoes;
 mod console;
 mod plans;
+mod repeating;
 mod words;
 
 use console::Console;

@@ -30,6 +30,10 @@ pub enum Request {
     Timetable,
     // Asks who holds a timeslot.
     Holder(u8),
+    // Tells who repeats where by a beacon's bitmap.
+    Repeats(HexLine),
+    // Asks whose frame starts at a timeslot.
+    Sender(u8),
     // Prints the image of a reading.
     ImageOfReading {
         value: i32,
@@ -144,9 +148,19 @@ impl<'a> Words<'a> {
         }
     }
 
-    // What is to be read: the octets are all words up to the end.
+    // What is to be read.
     fn read(&mut self, source: Source) -> Option<Request> {
         let kind = self.kind()?;
+        let octets = self.octets()?;
+        Some(Request::Read {
+            kind,
+            source,
+            octets,
+        })
+    }
+
+    // Octets: all words up to the end, or `-` for none.
+    fn octets(&mut self) -> Option<HexLine> {
         let mut octets = HexLine::new();
         match self.word()? {
             "-" => {}
@@ -157,11 +171,7 @@ impl<'a> Words<'a> {
         }
         match octets.told() {
             Line::NotOctets => None,
-            _ => Some(Request::Read {
-                kind,
-                source,
-                octets,
-            }),
+            _ => Some(octets),
         }
     }
 
@@ -201,6 +211,8 @@ impl<'a> Words<'a> {
             }),
             "timetable" => Some(Request::Timetable),
             "holder" => Some(Request::Holder(self.small()?)),
+            "repeats" => Some(Request::Repeats(self.octets()?)),
+            "sender" => Some(Request::Sender(self.small()?)),
             "image" => self.image(),
             "read" => self.read(Source::Image),
             "receive" => self.read(Source::Frame),
