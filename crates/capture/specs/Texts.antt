@@ -65,14 +65,24 @@ plan-text c =
     codes "R@16=" ++ (decimal (c .retransmission) ++ (codes " U@17=" ++ (decimal (c .uplink) ++ (codes " N@18=" ++ (decimal (c .timeslots) ++
     (codes " coordinator@19=" ++ decimal (c .coordinator)))))))
 
-abbrev pub command-text : Part → Part → Command → List ℕ
-command-text control parameters (commands.DiscoverResponse address wish) =
+abbrev pub response-text : Part → ℕ → Wish → List ℕ
+response-text control address wish =
     codes "command Discover-Response " ++ (addressed-text control address ++ (codes " width@10=" ++ (decimal (wish .width) ++ (codes " direction@11=" ++ direction-text (wish .direction)))))
-command-text control parameters (commands.ConfigurationStatus address simple wish first width) =
+
+abbrev pub status-text : Part → ℕ → ℕ → Wish → ℕ → ℕ → List ℕ
+status-text control address simple wish first width =
     codes "command Configuration-Status " ++ (addressed-text control address ++ (codes " simple@10=" ++ (decimal simple ++ (codes " width@11=" ++ (decimal (wish .width) ++
     (codes " direction@12=" ++ (direction-text (wish .direction) ++ (codes " first@13=" ++ (decimal first ++ (codes " slots@14=" ++ decimal width))))))))))
-command-text control parameters (commands.ConfigurationRequest address c) =
+
+-- the management octet is the eleventh of the parameters
+abbrev pub request-text : Part → ℕ → Part → Configuration → List ℕ
+request-text control address parameters c =
     codes "command Configuration-Request " ++ (addressed-text control address ++ (codes " " ++ (grant-text c (octet (parameters .octets .now) 10) ++ (codes " " ++ plan-text c))))
+
+abbrev pub command-text : Part → Part → Command → List ℕ
+command-text control parameters (commands.DiscoverResponse address wish) = response-text control address wish
+command-text control parameters (commands.ConfigurationStatus address simple wish first width) = status-text control address simple wish first width
+command-text control parameters (commands.ConfigurationRequest address c) = request-text control address parameters c
 
 abbrev pub data-text : Part → Part → List ℕ
 data-text control payload = codes "data " ++ (part-text (codes "control") control ++ (codes " " ++ part-text (codes "payload") payload))

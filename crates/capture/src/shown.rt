@@ -3,7 +3,7 @@ ghost use mathlib.Core.Path.{_≡_};
 ghost use Rattle.std.specs.declared.option.Option.the-variants.{Some};
 ghost use Rattle.std.specs.Written.{Prints};
 ghost use Rattle.capture.specs.Texts.{part-text, address-text, direction-text, start-text, header-text, addressed-text, grant-text, plan-text};
-ghost use Rattle.capture.specs.Texts.{beacon-text, data-text, acknowledgment-text, command-text, frame-text};
+ghost use Rattle.capture.specs.Texts.{beacon-text, data-text, acknowledgment-text, response-text, status-text, request-text, command-text, frame-text};
 ghost use Rattle.frame.specs.Octets.{octet};
 use frame::Acknowledged;
 use frame::BeaconHeader;
@@ -13,6 +13,7 @@ use frame::Configuration;
 use frame::Direction;
 use frame::Frame;
 use frame::Part;
+use frame::Wish;
 use hex::Hex;
 use hex::HexDisplay;
 use std::fmt;
@@ -197,6 +198,56 @@ fn show_beacon<W: fmt::Write>(
     }
 }
 
+fn show_response<W: fmt::Write>(
+    start: Addressed<'_>,
+    wish: Wish,
+    f: &mut fmt::Formatter<W>,
+) -> fmt::Result
+    ensures { λ r. ⌜ Prints took (now (f .entry)) r (response-text (start .entry .control) (start .entry .address) wish) (now (f .exit)) ⌝ }
+{
+    let width = wish.width;
+    let direction = direction_name(wish.direction);
+    write!(
+        f,
+        "command Discover-Response {start} width@10={width} direction@11={direction}"
+    )
+}
+
+fn show_status<W: fmt::Write>(
+    start: Addressed<'_>,
+    simple: u8,
+    wish: Wish,
+    first: u8,
+    width: u8,
+    f: &mut fmt::Formatter<W>,
+) -> fmt::Result
+    ensures { λ r. ⌜ Prints took (now (f .entry)) r (status-text (start .entry .control) (start .entry .address) simple wish first width) (now (f .exit)) ⌝ }
+{
+    let wanted = wish.width;
+    let direction = direction_name(wish.direction);
+    write!(
+        f,
+        "command Configuration-Status {start} simple@10={simple} width@11={wanted} direction@12={direction} first@13={first} slots@14={width}"
+    )
+}
+
+fn show_request<W: fmt::Write>(
+    start: Addressed<'_>,
+    parameters: Part<'_>,
+    configuration: Configuration,
+    f: &mut fmt::Formatter<W>,
+) -> fmt::Result
+    ensures { λ r. ⌜ Prints took (now (f .entry)) r (request-text (start .entry .control) (start .entry .address) (parameters .entry) configuration) (now (f .exit)) ⌝ }
+{
+    let management = octet_at(parameters.octets, 10);
+    let grant = Granted {
+        configuration,
+        management,
+    };
+    let plan = Planned(configuration);
+    write!(f, "command Configuration-Request {start} {grant} {plan}")
+}
+
 fn show_command<W: fmt::Write>(
     control: Part<'_>,
     parameters: Part<'_>,
@@ -206,43 +257,29 @@ fn show_command<W: fmt::Write>(
     ensures { λ r. ⌜ Prints took (now (f .entry)) r (command-text (control .entry) (parameters .entry) command) (now (f .exit)) ⌝ }
 {
     match command {
-        Command::DiscoverResponse { address, wish } => {
-            let start = Addressed { control, address };
-            let width = wish.width;
-            let direction = direction_name(wish.direction);
-            write!(
-                f,
-                "command Discover-Response {start} width@10={width} direction@11={direction}"
-            )
-        }
+        Command::DiscoverResponse { address, wish } => show_response(
+            Addressed { control, address },
+            wish,
+            f,
+        ),
         Command::ConfigurationStatus {
             address,
             simple,
             wish,
             first,
             width,
-        } => {
-            let start = Addressed { control, address };
-            let wanted = wish.width;
-            let direction = direction_name(wish.direction);
-            write!(
-                f,
-                "command Configuration-Status {start} simple@10={simple} width@11={wanted} direction@12={direction} first@13={first} slots@14={width}"
-            )
-        }
+        } => show_status(
+            Addressed { control, address },
+            simple,
+            wish,
+            first,
+            width,
+            f,
+        ),
         Command::ConfigurationRequest {
             address,
             configuration,
-        } => {
-            let start = Addressed { control, address };
-            let management = octet_at(parameters.octets, 10);
-            let grant = Granted {
-                configuration,
-                management,
-            };
-            let plan = Planned(configuration);
-            write!(f, "command Configuration-Request {start} {grant} {plan}")
-        }
+        } => show_request(Addressed { control, address }, parameters, configuration, f),
     }
 }
 

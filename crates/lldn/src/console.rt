@@ -84,14 +84,8 @@ impl Console {
                 Ok(plan) => self.accept(number, AnyPlan::Even(plan), out),
                 Err(fault) => refuse(number, fault, out),
             },
-            Request::Timetable => match &self.plan {
-                Some(plan) => timetable(number, plan, out),
-                None => no_plan(number, out),
-            },
-            Request::Holder(t) => match &self.plan {
-                Some(plan) => holder(number, plan, t, out),
-                None => no_plan(number, out),
-            },
+            Request::Timetable => self.tell_timetable(number, out),
+            Request::Holder(t) => self.tell_holder(number, t, out),
             Request::Repeats(octets) => self.repeat(number, &octets, out),
             Request::Sender(t) => self.send(number, t, out),
             Request::ImageOfReading { value, quality } => image_of_reading(
@@ -131,6 +125,20 @@ impl Console {
         match ListedPlan::new(numbers, grants) {
             Ok(plan) => self.accept(number, AnyPlan::Listed(plan), out),
             Err(fault) => refuse(number, fault, out),
+        }
+    }
+
+    fn tell_timetable(&self, number: u64, out: &mut Out) -> io::Result<()> {
+        match &self.plan {
+            Some(plan) => timetable(number, plan, out),
+            None => no_plan(number, out),
+        }
+    }
+
+    fn tell_holder(&self, number: u64, t: u8, out: &mut Out) -> io::Result<()> {
+        match &self.plan {
+            Some(plan) => holder(number, plan, t, out),
+            None => no_plan(number, out),
         }
     }
 
