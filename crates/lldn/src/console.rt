@@ -34,12 +34,14 @@ use times::to_microseconds;
 
 type Out = BufWriter<Stdout>;
 
-// The numbers of a listed plan that is being written, and its grants so far.
+// What the console remembers from line to line.
 #[derive(Drop)]
 pub struct Console {
     heap: Global,
+    // The numbers of a listed plan that is being written, and its grants so far.
     draft: Option<Numbers>,
     grants: Vec<Grant>,
+    // The plan that was accepted last.
     plan: Option<AnyPlan>,
     // The last bitmap that fitted that plan.
     heard: Option<Heard>,
