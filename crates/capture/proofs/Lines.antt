@@ -2,7 +2,7 @@
 use Rattle.std.proofs.Common.{◌≡◌, ℕ, List, take, Some, Option, sym, ap, ◌∙◌, arith}
 use Rattle.frame.specs.Formats.{reading}
 use Rattle.frame.proofs.Start.{told_by_start}
-use Rattle.hex.specs.LineOf.{LineTold, skipped, not_octets, these_octets, kept}
+use Rattle.hexadecimal.specs.LineOf.{LineTold, skipped, not_octets, these_octets, kept}
 use Rattle.capture.specs.Reports.{Reported, answered, reported}
 
 pub whole_line : (line : LineTold) (ys : List ℕ) → these_octets ys ≡ kept line → ◌≡◌ {A = Option Reported} (Some (answered (reading ys))) (reported line)

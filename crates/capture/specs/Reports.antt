@@ -4,7 +4,7 @@ use Rattle.frame.specs.declared.faults.Fault.{Fault}
 use Rattle.frame.specs.Formats.{Told, reading}
 use Rattle.frame.specs.Refusals.{fault_text}
 use Rattle.frame.specs.Views.{told}
-use Rattle.hex.specs.LineOf.{LineTold, skipped, not_octets, these_octets}
+use Rattle.hexadecimal.specs.LineOf.{LineTold, skipped, not_octets, these_octets}
 use Rattle.capture.specs.declared.reports.Report.{Report}
 use Rattle.capture.specs.declared.reports.Report.TheVariants as report
 use Rattle.capture.specs.Texts.{frame_text}

@@ -15,7 +15,7 @@ use Rattle.frame.specs.declared.frames.Part.{Part}
 use Rattle.frame.specs.declared.frames.Wish.{Wish}
 use Rattle.frame.specs.Messages.{type_code}
 use Rattle.frame.specs.Octets.{octet, little}
-use Rattle.hex.specs.Grammar.{text_of, octet_digits, spelling}
+use Rattle.hexadecimal.specs.Grammar.{text_of, octet_digits, spelling}
 
 -- a part as `name@place=octets`, the octets in hexadecimal, and `-` for none
 abbrev pub part_text : List ℕ → Part → List ℕ

@@ -2,13 +2,13 @@
 ghost use Rattle.std.specs.Prelude.{◌≡◌, ℕ, List, Some};
 ghost use Rattle.std.specs.Option.{option_map};
 ghost use Rattle.frame.specs.Formats.{reading};
-ghost use Rattle.hex.specs.LineOf.{line_of};
-ghost use Rattle.hex.specs.Reading.{Read};
+ghost use Rattle.hexadecimal.specs.LineOf.{line_of};
+ghost use Rattle.hexadecimal.specs.Reading.{Read};
 ghost use Rattle.capture.specs.Reports.{reported, answered, report_seen, report_text};
 
 use crate::shown::Dissected;
 use frame::{Fault, Frame, read};
-use hex::{HexLine, Line};
+use hexadecimal::{HexLine, Line};
 use std::fmt;
 
 // What is reported of a line that is not skipped.

@@ -8,7 +8,7 @@ ghost use Rattle.frame.specs.Octets.{octet};
 use frame::{
     Acknowledged, BeaconHeader, BeaconState, Command, Configuration, Direction, Frame, Part, Wish,
 };
-use hex::Hex;
+use hexadecimal::Hex;
 use std::fmt;
 
 // A part of a frame with its name.

@@ -1,7 +1,7 @@
 // Commands on cargo: images written, octets and frames read.
 use cargo::{Cargo, Panel, Reading, receive};
 use frame::Fault;
-use hex::Hex;
+use hexadecimal::Hex;
 use std::io;
 use std::io::{BufWriter, Stdout, Write};
 

@@ -7,7 +7,7 @@ use crate::stops::Stop;
 use cargo::Cargo;
 use coordinator::{Heard, Mode};
 use frame::Wish;
-use hex::Hex;
+use hexadecimal::Hex;
 use std::alloc::{AllocError, Global};
 use std::io;
 use std::io::{BufWriter, Stdout, Write};

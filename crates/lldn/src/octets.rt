@@ -1,6 +1,6 @@
 // Octets that a script gives.
 use crate::cargoes::first;
-use hex::{HexLine, Line};
+use hexadecimal::{HexLine, Line};
 
 // The first `count` of these octets: no more than one above the longest frame.
 #[derive(Clone, Copy)]

@@ -4,7 +4,7 @@ use crate::tallies::Tally;
 use cargo::Cargo;
 use device::{Device, Fate};
 use frame::Wish;
-use hex::Hex;
+use hexadecimal::Hex;
 use std::alloc::{AllocError, Global};
 use std::io;
 use std::io::{BufWriter, Stdout, Write};

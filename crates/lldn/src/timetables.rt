@@ -1,7 +1,7 @@
 // What a plan says of its timeslots.
 use crate::plans::AnyPlan;
 use frame::Direction;
-use hex::Hex;
+use hexadecimal::Hex;
 use plan::SlotPlan;
 use std::io;
 use std::io::{BufWriter, Stdout, Write};

@@ -1,7 +1,7 @@
 // The words of a line, and the values that they stand for.
 use crate::cargoes::{Inputs, Kind};
 use crate::octets::Octets;
-use hex::HexLine;
+use hexadecimal::HexLine;
 use std::str::SplitWhitespace;
 
 // The words of a line that were not taken yet.

@@ -1,6 +1,6 @@
 // Prints a radio capture, read from standard input, with each frame taken apart.
 use capture::{Report, Tally};
-use hex::HexLine;
+use hexadecimal::HexLine;
 use std::io;
 use std::io::{BufWriter, Read, Stdin, Stdout, Write};
 

@@ -5,7 +5,7 @@ use frame::{
     read, write_acknowledgment, write_command, write_configuration_beacon, write_data,
     write_discovery_beacon, write_online_beacon, write_reset_beacon,
 };
-use hex::Hex;
+use hexadecimal::Hex;
 use std::io;
 
 const HEADER: BeaconHeader = BeaconHeader {

@@ -1,5 +1,5 @@
 use Rattle.std.proofs.Common.{Some, ap, ◌∙◌}
-use Rattle.hex.specs.LineOf.{line_of}
+use Rattle.hexadecimal.specs.LineOf.{line_of}
 use Rattle.capture.specs.Reports.{Reported}
 use Rattle.capture.proofs.Lines.{whole_line}
 use Rattle.capture.proofs.reports.Report.of.Goals as goal

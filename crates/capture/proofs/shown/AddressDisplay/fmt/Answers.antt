@@ -1,6 +1,6 @@
 use Rattle.std.proofs.Common.{ℕ, List, ◌∙◌, subst}
 use Rattle.std.specs.Fmt.{WritesOnOk}
-use Rattle.hex.specs.Grammar.{text_of}
+use Rattle.hexadecimal.specs.Grammar.{text_of}
 use Rattle.capture.proofs.Addresses.{highest_first}
 use Rattle.capture.proofs.shown.AddressDisplay.fmt.Goals as goal
 

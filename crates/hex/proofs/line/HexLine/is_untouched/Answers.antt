@@ -1,9 +1,0 @@
--- A reader that has left the first place has read something.
-use Rattle.std.proofs.Common.{sym, ◌∙◌}
-use Rattle.hex.proofs.Telling.{not_untouched, untouched_at}
-use Rattle.hex.proofs.line.HexLine.is_untouched.Goals as goal
-
-pub returns-in-default : goal.returns-in-default
-returns-in-default c t h =
-    let place = c.args.self.now.progress in
-    sym (not_untouched place c.in-default.not-Untouched) ∙ untouched_at place t h.spelled h.stands

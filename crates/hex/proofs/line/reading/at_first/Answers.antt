@@ -1,6 +1,0 @@
--- The first byte comes after no octets.
-use Rattle.std.proofs.Common.{[], refl, arith}
-use Rattle.hex.proofs.line.reading.at_first.Goals as goal
-
-pub returns-in-default : goal.returns-in-default
-returns-in-default c = c.between.ensures [] [] refl (λ _ e. omega arith)
