@@ -181,7 +181,7 @@ fn show<W: fmt::Write>(
     layer: Layer,
     f: &mut fmt::Formatter<W>,
 ) -> fmt::Result
-    ensures { WritesOnOk write_str_gives f.old result (fault_parts number refusal place layer) f.new }
+    ensures { WritesOnOk W.write_str_gives f.old result (fault_parts number refusal place layer) f.new }
 {
     write!(f, "{number} {refusal} at {place} in {layer}")
 }

@@ -6,12 +6,12 @@ use Rattle.cargo.specs.Passing.{Receives}
 use Rattle.cargo.proofs.Deliveries.{delivered}
 use Rattle.cargo.proofs.passing.receive.Goals as goal
 
-pub returns-in-err-read : goal.returns-in-err-read
-returns-in-err-read g c =
+pub returns-in_err-read : goal.returns-in_err-read
+returns-in_err-read g c =
     let xs = c.args.octets.now in
     let r = c.from-residual.result in
     let p = err_from_is_err_and r c.from-residual.ensures.1 in
-    let was : c.read.result ≡ Err c.in-err-read.field-0.0 = c.in-err-read.was in
+    let was : c.read.result ≡ Err c.in_err-read.field-0.0 = c.in_err-read.was in
     let told : seen c.read.result ≡ reading xs = c.read.ensures.answer in
     let a : Receives g.C.Cargo.image xs r = rw (← told, was) (p.1 ∙ ap Err p.2) in
     record { answer = a; delivered = delivered g.C.Cargo.image g.met.C.Cargo.apart g.met.C.Cargo.short xs r a }
@@ -20,7 +20,7 @@ pub returns : goal.returns
 returns g c =
     let xs = c.args.octets.now in
     let r = c.cargo-in.result in
-    let was : c.read.result ≡ Ok c.in-ok-read.field-0 = c.in-ok-read.was in
+    let was : c.read.result ≡ Ok c.in_ok-read.field-0 = c.in_ok-read.was in
     let told : seen c.read.result ≡ reading xs = c.read.ensures.answer in
     let a : Receives g.C.Cargo.image xs r = rw (← told, was) c.cargo-in.ensures in
     record { answer = a; delivered = delivered g.C.Cargo.image g.met.C.Cargo.apart g.met.C.Cargo.short xs r a }

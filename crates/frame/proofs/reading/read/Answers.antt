@@ -11,9 +11,9 @@ use Rattle.frame.proofs.reading.read.Goals as goal
 pub returns : goal.returns
 returns c =
     let xs = c.args.octets.now in
-    let e : seen c.read-subtype.result ≡ reading xs = search rules in
+    let e : seen c.read_subtype.result ≡ reading xs = search rules in
     record {
       answer = e;
-      written_back = subst (λ (r : Result Told Fault). WrittenBack xs r) (sym e) (written_back xs (λ i. omega (arith, c.type-inv.octets i)));
+      written_back = subst (λ (r : Result Told Fault). WrittenBack xs r) (sym e) (written_back xs (λ i. omega (arith, c.type_inv.octets i)));
       told_by_start = e ∙ told_by_start xs;
     }

@@ -11,9 +11,9 @@ pub returns : goal.returns
 returns c = record {
   answer = simp length-append (grind (arith, nat_tests));
   memory =
-      let a = c.copy-from-slice.ensures.after in
-      let b = c.copy-from-slice-2.ensures.after in
-      let d = c.copy-from-slice-3.ensures.after in
+      let a = c.copy_from_slice.ensures.after in
+      let b = c.copy_from_slice-2.ensures.after in
+      let d = c.copy_from_slice-3.ensures.after in
       let e = three_runs c.args.first.now c.args.second.now c.args.third.now c.args.buffer.now in
       simp (a, b, d) e;
 }

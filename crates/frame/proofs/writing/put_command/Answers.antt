@@ -6,7 +6,7 @@ use Rattle.frame.proofs.writing.put_command.Goals as goal
 
 pub returns : goal.returns
 returns c =
-    let e = c.to-le-bytes.ensures ∙ little_eight c.args.address in
+    let e = c.to_le_bytes.ensures ∙ little_eight c.args.address in
     record {
       answer =
           subst (λ (l : List ℕ). c.put.result ≡ fitting (196 ∷ c.args.identifier ∷ (l ++ c.args.more.now)) c.args.buffer.now) e c.put.ensures.answer;

@@ -18,6 +18,6 @@ returns g c plain ok =
     let from = c.args.f.now in
     let middle = c.write-char.new.self in
     let end = c.write-char-2.new.self in
-    let one = c.in-ok-write-char.ensures.writes plain (refl {a = true}) in
+    let one = c.in_ok-write-char.ensures.writes plain (refl {a = true}) in
     let two = c.write-char-2.ensures.writes one.plain ok in
     has_written_of_eq took from (encode a ++ encode b) (octet_digits octet) end (encoded octet a b small high low) (has_written_append took from (encode a) middle (encode b) end one two)

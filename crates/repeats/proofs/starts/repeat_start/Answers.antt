@@ -28,7 +28,7 @@ pub returns-else-has-room : goal.returns-else-has-room
 returns-else-has-room c =
     late c.args.numbers c.args.octets.now c.args.grant c.zeros-before-before.result c.zeros-before-before.ensures c.has-room.result c.has-room.ensures c.if-has-room.false
 
-pub overflow-add-result : goal.overflow-add-result
-overflow-add-result c =
+pub overflow_add-result : goal.overflow_add-result
+overflow_add-result c =
     let z = c.zeros-before-before.ensures in
     omega (arith, zeros_few c.args.numbers c.args.octets.now c.args.grant.first)

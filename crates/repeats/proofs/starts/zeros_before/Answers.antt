@@ -3,8 +3,8 @@ use Rattle.repeats.proofs.Counting.{zeros_few, zeros_more}
 use Rattle.repeats.proofs.starts.zeros_before.Goals as goal
 use Rattle.repeats.proofs.starts.zeros_before.Goals.{then-is-missed, else-is-missed}
 
-pub overflow-add-zeros : goal.overflow-add-zeros
-overflow-add-zeros c = omega (arith, zeros_few c.args.numbers c.args.octets.now c.loop-earlier.earlier, c.loop-earlier.invariant)
+pub overflow_add-zeros : goal.overflow_add-zeros
+overflow_add-zeros c = omega (arith, zeros_few c.args.numbers c.args.octets.now c.loop-earlier.earlier, c.loop-earlier.invariant)
 
 pub loop-earlier-preserved : goal.loop-earlier-preserved
 loop-earlier-preserved c =

@@ -29,7 +29,7 @@ refused m s k t n f r same e by =
     let first = first_told (not (is_open s k)) (not (is_online (state_of s.mode))) (eqb t 0 || ltb m.numbers.timeslots t) (leb t s.last) _ _ _ _ f (somebody t (sending m s t)) told in
     p.1 ∙ ap Err p.2 ∙ sym first
 
-pub returns-in-err-admit : goal.returns-in-err-admit
-returns-in-err-admit g c =
-    refused (g.P.SlotPlan.meaning c.args.self.now.plan) c.args.self.now.inner c.args.superframe.now.number c.args.t c.numbers.result c.in-err-admit.field-0.0 c.from-residual.result
-    c.numbers.ensures c.in-err-admit.ensures c.from-residual.ensures.1
+pub returns-in_err-admit : goal.returns-in_err-admit
+returns-in_err-admit g c =
+    refused (g.P.SlotPlan.meaning c.args.self.now.plan) c.args.self.now.inner c.args.superframe.now.number c.args.t c.numbers.result c.in_err-admit.field-0.0 c.from-residual.result
+    c.numbers.ensures c.in_err-admit.ensures c.from-residual.ensures.1

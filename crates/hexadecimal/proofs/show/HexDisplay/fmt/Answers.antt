@@ -24,6 +24,6 @@ loop-octet-preserved g c plain =
     let so_far = spelling (take i octets) in
     let digits = octet_digits (get_or octets i 0) in
     let one = c.loop-octet.invariant plain in
-    let two = c.in-ok-write-octet.ensures one.plain (refl {a = true}) in
+    let two = c.in_ok-write-octet.ensures one.plain (refl {a = true}) in
     let more = spelling_more octets i c.loop-octet-test.true in
     has_written_of_eq took from (so_far ++ digits) (spelling (take (i + 1) octets)) end more (has_written_append took from so_far middle digits end one two)
