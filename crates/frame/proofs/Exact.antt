@@ -1,5 +1,5 @@
 -- An accepted frame is, but for its free bits, what the writer gives for it.
-use Rattle.std.proofs.Common.{◌≡◌, ℕ, zero, suc, ◌+◌, ◌-◌, ◌*◌, ◌/◌, ◌%◌, ◌^◌, ◌<◌, ◌≤◌, Bool, true, false, cond, not, eqb, ltb, List, [], ◌∷◌, ◌++◌, length, take, drop, set, IfOk, Ok, Err, Option, Result, sym, refl, ap, ◌∙◌, subst, append-nil, add-zero, add-suc, mod-eq_of_lt, suc-add, zero-add, div-one, arith, drop-cons}
+use Rattle.std.proofs.Common.{◌≡◌, ℕ, zero, suc, ◌+◌, ◌*◌, ◌/◌, ◌%◌, ◌<◌, ◌≤◌, not, eqb, ltb, List, [], ◌∷◌, ◌++◌, length, take, drop, set, IfOk, Ok, Err, Option, Result, sym, refl, ap, ◌∙◌, append-nil, add-zero, mod-eq_of_lt, zero-add, div-one, arith, drop-cons}
 use native.Mathlib.Nat.{div-div-eq-div-mul}
 use Rattle.std.proofs.lemmas.List.{drop_all}
 use Rattle.std.proofs.lemmas.Bool.{cond_both, eqb-true, eqb-false, ltb-false, not-false}
@@ -10,7 +10,7 @@ use Rattle.frame.specs.declared.frames.Direction.{Direction}
 use Rattle.frame.specs.declared.frames.Direction.TheVariants as directions
 use Rattle.frame.specs.declared.frames.Wish.{Wish}
 use Rattle.frame.specs.Formats.{Format, beacon, payload, acknowledgment, command, unlisted_state, unlisted_type, unlisted_identifier, beacon_format, acknowledgment_format, command_format}
-use Rattle.frame.specs.Formats.{extent, format_in, header_in, address_in, beacon_said, state_of, acknowledged_of, order_of, direction_of, wish_of, wishing, said, Told, unless_surplus, reading_as, reading}
+use Rattle.frame.specs.Formats.{extent, format_in, address_in, beacon_said, state_of, acknowledged_of, order_of, direction_of, wish_of, wishing, said, Told, unless_surplus, reading_as, reading}
 use Rattle.frame.specs.Laws.{without, cleared_flags, cleared_as, WrittenBack}
 use Rattle.frame.specs.Messages.{Message, State, online, discovery, configuration, reset, state_code, control, octets_of}
 use Rattle.frame.specs.Messages.{Order, discover_response, configuration_status, configuration_request, identifier, type_code, direction_code}

@@ -1,5 +1,5 @@
 -- Octets past the longest frame change nothing.
-use Rattle.std.proofs.Common.{◌≡◌, ℕ, ◌+◌, ◌<◌, ◌≤◌, Bool, true, false, cond, not, eqb, ltb, List, length, take, Some, None, Ok, Err, Option, Result, sym, refl, ap, ◌∙◌, inl, inr, arith, lit≤}
+use Rattle.std.proofs.Common.{◌≡◌, ℕ, ◌<◌, ◌≤◌, Bool, true, false, cond, not, eqb, ltb, List, length, take, Some, None, Ok, Err, Option, Result, sym, refl, ap, ◌∙◌, inl, inr, arith, lit≤}
 use Rattle.std.proofs.lemmas.List.{get_or-take, length-take-le, take_all}
 use Rattle.std.proofs.lemmas.Bool.{cases_lt, lt-ltb, le-ltb, ne_eqb, cond-false}
 use Rattle.frame.specs.declared.faults.Fault.{Fault}
@@ -7,8 +7,8 @@ use Rattle.frame.specs.declared.faults.Refusal.TheVariants as refusal
 use Rattle.frame.specs.declared.frames.Direction.{Direction}
 use Rattle.frame.specs.declared.frames.Wish.{Wish}
 use Rattle.frame.specs.Formats.{Format, beacon, payload, acknowledgment, command, unlisted_state, unlisted_type, unlisted_identifier}
-use Rattle.frame.specs.Formats.{extent, format_of, format_in, direction_of, wish_of, wishing, said, Told, unless_surplus, reading_as, reading}
-use Rattle.frame.specs.Messages.{Message, State, online, discovery, configuration, reset, discover_response, configuration_status, configuration_request}
+use Rattle.frame.specs.Formats.{extent, format_of, format_in, wish_of, wishing, said, Told, unless_surplus, reading_as, reading}
+use Rattle.frame.specs.Messages.{Message, online, discovery, configuration, reset, discover_response, configuration_status, configuration_request}
 use Rattle.frame.specs.Octets.{bits, octet}
 use Rattle.frame.specs.Refusals.{fault}
 

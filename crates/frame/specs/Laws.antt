@@ -1,7 +1,7 @@
 -- Reading is one-to-one up to the free bits, and long octets are told by their start.
 use Rattle.std.specs.Prelude.{◌≡◌, ℕ, ◌-◌, ◌*◌, ◌^◌, List, IfOk, Result, slice_set}
 use Rattle.frame.specs.declared.faults.Fault.{Fault}
-use Rattle.frame.specs.Formats.{Format, beacon, payload, acknowledgment, command, unlisted_state, unlisted_type, unlisted_identifier, format_in, Told, reading}
+use Rattle.frame.specs.Formats.{Format, beacon, payload, acknowledgment, command, unlisted_state, unlisted_type, unlisted_identifier, format_in, Told}
 use Rattle.frame.specs.Messages.{State, online, discovery, configuration, reset, discover_response, configuration_status, configuration_request, octets_of}
 use Rattle.frame.specs.Octets.{bits, octet}
 

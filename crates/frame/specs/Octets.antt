@@ -1,5 +1,5 @@
 -- Octets and the numbers in them.
-use Rattle.std.specs.Prelude.{ℕ, zero, suc, ◌+◌, ◌-◌, ◌*◌, ◌/◌, ◌%◌, ◌^◌, List, [], ◌∷◌, slice_index, slice_range}
+use Rattle.std.specs.Prelude.{ℕ, zero, suc, ◌+◌, ◌*◌, ◌/◌, ◌%◌, ◌^◌, List, [], ◌∷◌, slice_index, slice_range}
 
 -- `count` bits of a number, from bit `low` on
 abbrev pub bits : ℕ → ℕ → ℕ → ℕ

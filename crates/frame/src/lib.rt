@@ -1,4 +1,6 @@
 // Frames of the low latency mode (LLDN) of IEEE 802.15.4: read from received octets, and written into a lent buffer.
+#![tactic(auto)]
+
 mod faults;
 mod frames;
 mod management;

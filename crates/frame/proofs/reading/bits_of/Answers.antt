@@ -1,5 +1,5 @@
 -- A mask of `count` ones takes the remainder by 2 ^ count.
-use Rattle.std.proofs.Common.{◌≡◌, ◌*◌, ◌%◌, ◌^◌, ◌<◌, ◌≤◌, arith}
+use Rattle.std.proofs.Common.{arith}
 use Rattle.std.proofs.lemmas.Nat.{one_shl, pow_pos, and_mask}
 use Rattle.frame.proofs.reading.bits_of.Goals as goal
 

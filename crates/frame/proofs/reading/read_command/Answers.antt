@@ -1,4 +1,3 @@
-use Rattle.std.proofs.Common.{rules}
 use Rattle.frame.proofs.reading.read_command.Goals as goal
 
 pub returns-in-15 : goal.returns-in-15
