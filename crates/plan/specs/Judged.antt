@@ -1,5 +1,5 @@
 -- What the verdict says, in the words of the rules.
-use Rattle.std.specs.Prelude.{◌≡◌, ℕ, zero, suc, ◌+◌, ◌-◌, ◌<◌, ◌≤◌, Bool, true, false, not, ◌&&◌, ◌||◌, ◌⊎◌, List, length, take, is_some, Some, None, Decides, Option, nat_le, slice_index_or, refl}
+use Rattle.std.specs.Prelude.{◌≡◌, ℕ, zero, suc, ◌+◌, ◌-◌, ◌<◌, ◌≤◌, Bool, true, false, not, ◌&&◌, ◌||◌, List, length, take, is_some, Some, None, Decides, Option, nat_le, slice_index_or, refl}
 use Rattle.std.proofs.Common.{sym, ap, ◌∙◌, subst, inl, inr, ⊎_elim, arith}
 use Rattle.std.specs.Option.{option_map}
 use Rattle.std.proofs.lemmas.List.{get_or-take, length-take-le}
@@ -31,11 +31,11 @@ unfolding breaking clashing_before
 kept_so_far m i e g at =
     let parts = or_parts _ _ (sym (passes_there _ _ _ at) ∙ e) in
     let none = is_missing _ parts.1 in
-    let Tells-none = subst (First (λ j. passing (λ h. clashing h g) (grant_at m j)) (i - 1)) none (first_tells _ (i - 1)) in (
+    let tells_none = subst (First (λ j. passing (λ h. clashing h g) (grant_at m j)) (i - 1)) none (first_tells _ (i - 1)) in (
       (grant_decided m.numbers g).0 (not-false _ parts.0),
       λ j h below there clash.
           let n = numbered m j h there in
-          both_ways _ (sym (passes_there _ _ _ there) ∙ Tells-none j n.0 (omega arith)) ((clash_decided h g).1 clash),
+          both_ways _ (sym (passes_there _ _ _ there) ∙ tells_none j n.0 (omega arith)) ((clash_decided h g).1 clash),
     )
 
 -- a grant that breaks one

@@ -1,4 +1,6 @@
 // Slot plans of the low latency mode (LLDN) of IEEE 802.15.4: which device may send when.
+#![tactic(auto)]
+
 mod asking;
 mod even;
 mod grant;

@@ -1,5 +1,5 @@
 // Making a listed plan, and asking it.
-ghost use Rattle.std.specs.Prelude.{◌≡◌, ℕ, ◌-◌, ◌<◌, ◌≤◌, ◌&&◌, leb, length, IfOk, if◌then◌else◌, Some, None, Decides, nat_le, slice_index_or};
+ghost use Rattle.std.specs.Prelude.{◌≡◌, ℕ, ◌-◌, ◌<◌, ◌≤◌, ◌&&◌, length, IfOk, if◌then◌else◌, Some, None, Decides, nat_le, slice_index_or};
 ghost use Rattle.std.specs.Result.{result_err};
 ghost use Rattle.plan.specs.Places.{blank, ClashIn};
 ghost use Rattle.plan.specs.Rules.{plan_of, Holds};
@@ -59,7 +59,7 @@ fn first_holding(grants: &[Grant], t: u8) -> usize
 
 // Grant i of a list, from 1 on, or none.
 fn numbered(grants: &[Grant], i: usize) -> Option<Grant>
-    ensures { result ≡ (if leb 1 i && nat_le i (length grants.now) then Some (slice_index_or grants.now (i - 1) blank) else None) }
+    ensures { result ≡ (if nat_le 1 i && nat_le i (length grants.now) then Some (slice_index_or grants.now (i - 1) blank) else None) }
 {
     if i == 0 || i > grants.len() {
         return None;

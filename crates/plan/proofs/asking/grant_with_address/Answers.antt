@@ -18,12 +18,12 @@ tested m a i o b c e f h = ap (passing (λ x. eqb x.address a)) (sym e) ∙ sym 
 named : (m : PlanMeaning) (a : ℕ) (r : Option ℕ) → Rules m → r ≡ number_with m a → NamesAddressed m a r
 named m a r rules e = subst (NamesAddressed m a) (sym e) (names_addressed m rules a)
 
-pub returns-then-has-address : goal.returns-then-has-address
+pub returns-then-has_address : goal.returns-then-has_address
 unfolding number_with
-returns-then-has-address g c =
+returns-then-has_address g c =
     let m = g.P.SlotPlan.meaning c.args.plan.now in
     let rules = g.met.P.SlotPlan.keeps c.args.plan.now in
-    let here = tested m c.args.address (c.loop-before.before + 1) c.grant.result _ true c.grant.ensures c.has-address.ensures c.if-has-address.true in
+    let here = tested m c.args.address (c.loop-before.before + 1) c.grant.result _ true c.grant.ensures c.has_address.ensures c.if-has_address.true in
     let e = sym (first_found (has m c.args.address) (count_of m) c.loop-before.before c.loop-before.invariant (omega arith) here) in
     record { answer = e; names = named m c.args.address _ rules e; differ = addresses_differ m rules }
 
@@ -31,7 +31,7 @@ pub loop-before-preserved : goal.loop-before-preserved
 loop-before-preserved g c =
     let m = g.P.SlotPlan.meaning c.args.plan.now in
     none_more (has m c.args.address) c.loop-before.before c.loop-before.invariant
-    (tested m c.args.address (c.loop-before.before + 1) c.grant.result _ false c.grant.ensures c.has-address.ensures c.if-has-address.false)
+    (tested m c.args.address (c.loop-before.before + 1) c.grant.result _ false c.grant.ensures c.has_address.ensures c.if-has_address.false)
 
 pub returns : goal.returns
 unfolding number_with

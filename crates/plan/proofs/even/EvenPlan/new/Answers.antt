@@ -38,24 +38,27 @@ returns-then-not-keep c =
     let e = ap Some c.at.ensures ∙ sym (verdict_frame m broken) in
     record { answer = e; kept = tt; only = only_verdict m _ e }
 
-pub returns-then-not-keeps-at : goal.returns-then-not-keeps-at
-returns-then-not-keeps-at c =
+pub returns-then-not-keeps_at : goal.returns-then-not-keeps_at
+returns-then-not-keeps_at c =
     let m = even_plan c.args.numbers c.args.count c.args.width c.args.address c.args.simple in
     let sound = framed c.args.numbers c.args.count c.args.width c.args.address c.args.simple _ c.keep.ensures c.if-not-keep.false (omega arith) in
-    let bad = tested c.args.numbers c.args.count c.args.width c.args.address c.args.simple c.loop-before.before _ c.loop-before-test.true c.keeps-at.ensures ∙ ap not c.if-not-keeps-at.true in
+    let bad = tested c.args.numbers c.args.count c.args.width c.args.address c.args.simple c.loop-before.before _ c.loop-before-test.true c.keeps_at.ensures ∙ ap not c.if-not-keeps_at.true in
     let below = within c.args.numbers c.args.count c.args.width c.args.address c.args.simple c.loop-before.before c.loop-before-test.true in
-    let e = ap Some c.fault-behind.ensures ∙ sym (verdict_grant m c.loop-before.before sound c.loop-before.invariant below bad) in
+    let e = ap Some c.fault_behind.ensures ∙ sym (verdict_grant m c.loop-before.before sound c.loop-before.invariant below bad) in
     record { answer = e; kept = tt; only = only_verdict m _ e }
 
 pub loop-before-preserved : goal.loop-before-preserved
 loop-before-preserved c =
     none_more (breaking (even_plan c.args.numbers c.args.count c.args.width c.args.address c.args.simple)) c.loop-before.before c.loop-before.invariant
-    (tested c.args.numbers c.args.count c.args.width c.args.address c.args.simple c.loop-before.before _ c.loop-before-test.true c.keeps-at.ensures ∙ ap not c.if-not-keeps-at.false)
+    (tested c.args.numbers c.args.count c.args.width c.args.address c.args.simple c.loop-before.before _ c.loop-before-test.true c.keeps_at.ensures ∙ ap not c.if-not-keeps_at.false)
 
-pub invariant-of-result : goal.invariant-of-result
-invariant-of-result c =
+pub invariant_of-result : goal.invariant_of-result
+invariant_of-result c =
     let sound = framed c.args.numbers c.args.count c.args.width c.args.address c.args.simple _ c.keep.ensures c.if-not-keep.false (omega arith) in
-    (even_count c.args.numbers c.args.count c.args.width c.args.address c.args.simple, (ap is_some (ended c.args.numbers c.args.count c.args.width c.args.address c.args.simple c.loop-before.before sound c.loop-before.invariant c.loop-before-test.false), tt))
+    record {
+      counted = even_count c.args.numbers c.args.count c.args.width c.args.address c.args.simple;
+      lawful = ap is_some (ended c.args.numbers c.args.count c.args.width c.args.address c.args.simple c.loop-before.before sound c.loop-before.invariant c.loop-before-test.false);
+    }
 
 pub returns : goal.returns
 returns c =

@@ -10,7 +10,7 @@ use Rattle.plan.specs.Decisions.{grant_decided}
 use Rattle.plan.specs.Firsts.{none_more}
 use Rattle.plan.specs.Judged.{only_verdict, verdict_frame, verdict_grant, verdict_none, breaking_at, clashing_tells}
 use Rattle.plan.proofs.listed.ListedPlan.new.Goals as goal
-use Rattle.plan.proofs.listed.ListedPlan.new.Goals.{then-not-keep-via-then-not-keep, then-not-keep-via-else-not-keep+then-len-gt128, then-not-keeps-via-then-not-keeps, then-not-keeps-via-else-not-keeps+then-clashes-with-one}
+use Rattle.plan.proofs.listed.ListedPlan.new.Goals.{then-not-keep-via-then-not-keep, then-not-keep-via-else-not-keep+then-len-gt128, then-not-keeps-via-then-not-keeps, then-not-keeps-via-else-not-keeps+then-clashes_with_one}
 
 pub returns-then-not-keep : goal.returns-then-not-keep
 returns-then-not-keep c =
@@ -54,26 +54,26 @@ returns-then-not-keeps c =
     let sound = framed ns gs _ c.keep.ensures c.if-not-keep.false (omega arith) in
     let bad : breaking (plan_of ns gs) (k + 1) ≡ true = elim c.then-not-keeps.branch [
       | then-not-keeps-via-then-not-keeps w ↦ breaks_alone ns gs (take (k - 0) gs) k c.loop-i-test.true refl _ c.keeps.ensures w.if-not-keeps.true
-      | then-not-keeps-via-else-not-keeps+then-clashes-with-one w ↦
-          breaks_with ns gs (take (k - 0) w.deref.result.now) k c.loop-i-test.true (ap (take (k - 0)) (w.deref.ensures.value ∙ sym here)) _ c.keeps.ensures _ w.clashes-with-one.ensures w.if-clashes-with-one.true
+      | then-not-keeps-via-else-not-keeps+then-clashes_with_one w ↦
+          breaks_with ns gs (take (k - 0) w.deref.result.now) k c.loop-i-test.true (ap (take (k - 0)) (w.deref.ensures.value ∙ sym here)) _ c.keeps.ensures _ w.clashes_with_one.ensures w.if-clashes_with_one.true
     ] in
-    let e = ap Some c.fault-behind.ensures ∙ sym (verdict_grant (plan_of ns gs) k sound c.loop-i.invariant c.loop-i-test.true bad) ∙ ap (λ (l : List Grant). verdict (plan_of ns l)) here in
+    let e = ap Some c.fault_behind.ensures ∙ sym (verdict_grant (plan_of ns gs) k sound c.loop-i.invariant c.loop-i-test.true bad) ∙ ap (λ (l : List Grant). verdict (plan_of ns l)) here in
     record { answer = e; kept = tt; only = only_verdict (plan_of ns (vec_items c.args.grants)) _ e }
 
 pub loop-i-preserved : goal.loop-i-preserved
 loop-i-preserved c =
     let gs = c.deref-g-items.result.now in
     none_more (breaking (plan_of c.args.numbers gs)) c.loop-i.i c.loop-i.invariant
-    (breaks_none c.args.numbers gs (take (c.loop-i.i - 0) c.deref.result.now) c.loop-i.i c.loop-i-test.true (ap (take (c.loop-i.i - 0)) (c.deref.ensures.value ∙ sym c.deref-g-items.ensures.value)) _ c.keeps.ensures _ c.if-not-keeps.false c.clashes-with-one.ensures c.if-clashes-with-one.false)
+    (breaks_none c.args.numbers gs (take (c.loop-i.i - 0) c.deref.result.now) c.loop-i.i c.loop-i-test.true (ap (take (c.loop-i.i - 0)) (c.deref.ensures.value ∙ sym c.deref-g-items.ensures.value)) _ c.keeps.ensures _ c.if-not-keeps.false c.clashes_with_one.ensures c.if-clashes_with_one.false)
 
 -- no grant breaks a rule
 ended : (ns : Numbers) (gs vs : List Grant) (k : ℕ) → gs ≡ vs → Framed (plan_of ns gs) → ((i : ℕ) → 1 ≤ i → i ≤ k → breaking (plan_of ns gs) i ≡ false) → length gs ≤ k → verdict (plan_of ns vs) ≡ None
 ended ns gs vs k same sound before past = ap (λ (l : List Grant). verdict (plan_of ns l)) (sym same) ∙ verdict_none (plan_of ns gs) k sound before past
 
-pub invariant-of-result : goal.invariant-of-result
-invariant-of-result c =
+pub invariant_of-result : goal.invariant_of-result
+invariant_of-result c =
     let sound = framed c.args.numbers c.deref-g-items.result.now _ c.keep.ensures c.if-not-keep.false (omega arith) in
-    (ap is_some (ended c.args.numbers _ _ c.loop-i.i c.deref-g-items.ensures.value sound c.loop-i.invariant c.loop-i-test.false), tt)
+    record { lawful = ap is_some (ended c.args.numbers _ _ c.loop-i.i c.deref-g-items.ensures.value sound c.loop-i.invariant c.loop-i-test.false) }
 
 pub returns : goal.returns
 returns c =

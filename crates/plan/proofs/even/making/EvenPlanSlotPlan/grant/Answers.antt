@@ -17,8 +17,8 @@ returns-then-i-eq0 c =
       | then-i-eq0-via-else-i-eq0+then-i-self w ↦ inr (omega arith)
     ]))
 
-pub grant-of-requires : goal.grant-of-requires
-grant-of-requires c =
+pub grant_of-requires : goal.grant_of-requires
+grant_of-requires c =
     let p = c.args.self.now in
     let few = even_few p.numbers p.count p.width p.address p.simple (lawful (even_meaning p) p.lawful) in
     (omega arith, omega arith)

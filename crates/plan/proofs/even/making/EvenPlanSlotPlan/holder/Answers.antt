@@ -18,17 +18,17 @@ returns-then-self-eq0 c =
       | then-self-eq0-via-else-self-eq0+then-t-self w ↦ sym (held_by_none p.numbers p.count p.width p.address p.simple c.args.t (omega arith))
     ]
 
-pub widths-before-before-requires : goal.widths-before-before-requires
-widths-before-before-requires c = (omega arith, wide c.args.self.now (omega arith))
+pub widths_before-before-requires : goal.widths_before-before-requires
+widths_before-before-requires c = (omega arith, wide c.args.self.now (omega arith))
 
 pub returns-then-before-self : goal.returns-then-before-self
 returns-then-before-self c =
     let p = c.args.self.now in
-    let e = c.widths-before-before.ensures in
+    let e = c.widths_before-before.ensures in
     ap (λ (k : ℕ). Some (k + 1)) e ∙ sym (held_by p.numbers p.count p.width p.address p.simple c.args.t (wide p (omega arith)) (omega arith) (omega arith))
 
 pub returns-else-before-self : goal.returns-else-before-self
 returns-else-before-self c =
     let p = c.args.self.now in
-    let e = c.widths-before-before.ensures in
+    let e = c.widths_before-before.ensures in
     sym (held_past p.numbers p.count p.width p.address p.simple c.args.t (wide p (omega arith)) (omega arith) (omega arith))

@@ -32,12 +32,12 @@ module _ (ns : Numbers) (gs vs : List Grant) (same : gs ≡ vs) (t k : ℕ) (wit
 
 pub returns-then-i-len : goal.returns-then-i-len
 returns-then-i-len c =
-    let f = c.first-holding-i.ensures in
+    let f = c.first_holding-i.ensures in
     let n = ap length c.deref.ensures.value in
-    held c.args.self.now.numbers c.deref.result.now _ c.deref.ensures.value c.args.t c.first-holding-i.result f.within f.before (omega arith) (f.found (omega arith))
+    held c.args.self.now.numbers c.deref.result.now _ c.deref.ensures.value c.args.t c.first_holding-i.result f.within f.before (omega arith) (f.found (omega arith))
 
 pub returns-else-i-len : goal.returns-else-i-len
 returns-else-i-len c =
-    let f = c.first-holding-i.ensures in
+    let f = c.first_holding-i.ensures in
     let n = ap length c.deref.ensures.value in
-    unheld c.args.self.now.numbers c.deref.result.now _ c.deref.ensures.value c.args.t c.first-holding-i.result f.within f.before (omega arith)
+    unheld c.args.self.now.numbers c.deref.result.now _ c.deref.ensures.value c.args.t c.first_holding-i.result f.within f.before (omega arith)
