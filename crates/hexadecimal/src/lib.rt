@@ -1,4 +1,6 @@
 // Radio captures in hexadecimal: one frame a line of text, two digits an octet.
+#![tactic(auto)]
+
 mod digit;
 mod line;
 mod show;

@@ -26,7 +26,7 @@ impl fmt::Display for Hex<'_> {
 
 // Writes the two digits of an octet.
 fn write_octet<W: fmt::Write>(f: &mut fmt::Formatter<W>, octet: u8) -> fmt::Result
-    ensures { WritesOnOk write_str_gives f.old result (octet_digits octet) f.new }
+    ensures { WritesOnOk W.write_str_gives f.old result (octet_digits octet) f.new }
 {
     let [high, low] = digits(octet);
     f.write_char(char::from(high))?;

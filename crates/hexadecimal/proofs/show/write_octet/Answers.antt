@@ -16,8 +16,8 @@ returns g c plain ok =
     let high = c.from.ensures ∙ ap (λ l. get_or l 0 0) c.digits.ensures.value in
     let low = c.from-2.ensures ∙ ap (λ l. get_or l 1 0) c.digits.ensures.value in
     let from = c.args.f.now in
-    let middle = c.write-char.new.self in
-    let end = c.write-char-2.new.self in
-    let one = c.in_ok-write-char.ensures.writes plain (refl {a = true}) in
-    let two = c.write-char-2.ensures.writes one.plain ok in
+    let middle = c.write_char.new.self in
+    let end = c.write_char-2.new.self in
+    let one = c.in_ok-write_char.ensures.writes plain (refl {a = true}) in
+    let two = c.write_char-2.ensures.writes one.plain ok in
     has_written_of_eq took from (encode a ++ encode b) (octet_digits octet) end (encoded octet a b small high low) (has_written_append took from (encode a) middle (encode b) end one two)

@@ -9,4 +9,4 @@ pub returns-in-Octets : goal.returns-in-Octets
 returns-in-Octets c ok =
     let told = c.in-Octets.told.now in
     let same = (slice_eq-Decides Decides-eqb told c.args.expected.now c.eq.result c.eq.ensures).0 ok in
-    sym (c.in-Octets.ensures c.args.text.now c.line-with-line.ensures) ∙ ap these_octets same
+    sym (c.in-Octets.ensures c.args.text.now c.line_with-line.ensures) ∙ ap these_octets same

@@ -2,5 +2,5 @@
 use Rattle.std.proofs.Common.{[], refl, arith}
 use Rattle.hexadecimal.proofs.line.reading.at_first.Goals as goal
 
-pub returns-in-default : goal.returns-in-default
-returns-in-default c = c.between.ensures [] [] refl (λ _ e. omega arith)
+pub returns-in_default : goal.returns-in_default
+returns-in_default c = c.between.ensures [] [] refl (λ _ e. omega arith)

@@ -10,4 +10,4 @@ returns-then-byte-eq32 c t s h k = subst (λ b. Stands Whole (t ++ b ∷ []) s) 
 
 pub returns-in-None : goal.returns-in-None
 returns-in-None c t s h k =
-    break_on t s c.args.byte h k c.requires c.if-byte-eq32.false (sym c.value-of.ensures ∙ c.in-None.is)
+    break_on t s c.args.byte h k c.requires c.if-byte-eq32.false (sym c.value_of.ensures ∙ c.in-None.is)

@@ -10,7 +10,7 @@ returns-clause-writes g c plain ok =
     let took = g.W.Write.write_str_gives in
     let octets = c.args.self.now.0.now in
     let i = c.loop-octet.octet-index in
-    let all = spelling_all octets i c.loop-octet-test.false c.if-is-empty.ensures in
+    let all = spelling_all octets i c.loop-octet-test.false c.if-is_empty.ensures in
     has_written_of_eq took c.args.f.now (spelling (take i octets)) (text_of octets) c.loop-octet.f all (c.loop-octet.invariant plain)
 
 pub loop-octet-preserved : goal.loop-octet-preserved
@@ -20,10 +20,10 @@ loop-octet-preserved g c plain =
     let i = c.loop-octet.octet-index in
     let from = c.args.f.now in
     let middle = c.loop-octet.f in
-    let end = c.write-octet.new.f in
+    let end = c.write_octet.new.f in
     let so_far = spelling (take i octets) in
     let digits = octet_digits (get_or octets i 0) in
     let one = c.loop-octet.invariant plain in
-    let two = c.in_ok-write-octet.ensures one.plain (refl {a = true}) in
+    let two = c.in_ok-write_octet.ensures one.plain (refl {a = true}) in
     let more = spelling_more octets i c.loop-octet-test.true in
     has_written_of_eq took from (so_far ++ digits) (spelling (take (i + 1) octets)) end more (has_written_append took from so_far middle digits end one two)
