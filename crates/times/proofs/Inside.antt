@@ -1,14 +1,13 @@
 -- A full frame ends inside its grant's timeslots.
-use Rattle.std.proofs.Common.{◌≡◌, ℕ, ◌+◌, ◌-◌, ◌*◌, ◌<◌, ◌≤◌, min, Some, sym, refl, ap, ◌∙◌, inl, inr, add-mul, one-mul, mul-add, mul_left_comm, arith}
+use Rattle.std.proofs.Common.{◌≡◌, ℕ, ◌+◌, ◌-◌, ◌*◌, ◌≤◌, inl, inr, add-mul, one-mul, mul-add, mul_left_comm, arith}
 use native.Mathlib.Nat.{min-le_right}
 use Rattle.std.proofs.lemmas.Nat.{mul-le}
 use Rattle.std.proofs.lemmas.Bool.{cases_lt}
 use Rattle.std.proofs.lemmas.Bool.Decides.{nat_tests}
 use Rattle.plan.specs.declared.grant.Grant.{Grant}
-use Rattle.plan.specs.declared.grant.Numbers.{Numbers}
-use Rattle.plan.specs.Rules.{PlanMeaning, Rules, GrantKeeps, grant_at, carried}
+use Rattle.plan.specs.Rules.{PlanMeaning, Rules, GrantKeeps, carried}
 use Rattle.times.specs.Laws.{FullFramesEndInside}
-use Rattle.times.specs.Symbols.{spacing, frame_symbols, timeslot_symbols, end_of}
+use Rattle.times.specs.Symbols.{spacing, frame_symbols, timeslot_symbols}
 
 spacing_low : (m : ℕ) → 12 ≤ spacing m
 spacing_low m = grind (arith, nat_tests)

@@ -1,9 +1,9 @@
 -- Laws of the slot times.
-use Rattle.std.specs.Prelude.{◌≡◌, ℕ, ◌+◌, ◌-◌, ◌<◌, ◌≤◌, Some}
+use Rattle.std.specs.Prelude.{◌≡◌, ℕ, ◌+◌, ◌<◌, ◌≤◌, Some}
 use Rattle.plan.specs.declared.grant.Grant.{Grant}
 use Rattle.plan.specs.declared.grant.Numbers.{Numbers}
 use Rattle.plan.specs.Rules.{PlanMeaning, grant_at, carried}
-use Rattle.times.specs.Symbols.{Span, beacon_symbols, frame_symbols, span_of, superframe_symbols}
+use Rattle.times.specs.Symbols.{beacon_symbols, frame_symbols, span_of, superframe_symbols}
 
 -- timeslots follow each other without gap or overlap: the first starts where the beacon ends, each other one where the one before ends, and each takes time
 pub record FollowEachOther (ns : Numbers) : Type 0 where

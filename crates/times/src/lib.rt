@@ -1,4 +1,6 @@
 // Slot times of the low latency mode (LLDN) of IEEE 802.15.4, in symbols of 16 microseconds.
+#![tactic(auto)]
+
 ghost use Rattle.std.specs.Prelude.{◌≡◌, ◌≤◌, [], ◌∷◌, map};
 ghost use Rattle.plan.specs.Rules.{grant_at};
 ghost use Rattle.times.specs.Symbols.{frame_symbols, timeslot_symbols, beacon_symbols, span_of, slot_span, grant_span, superframe_symbols, microseconds, sixteen_of_two};
