@@ -59,6 +59,10 @@ five_image xs z h b e =
     ∙ ap (λ (l : List ℕ). l ++ octet xs 4 ∷ []) (complement_octets (octet xs 0) (octet xs 1) (octet xs 2) (octet xs 3) (b 0) (b 1) (b 2) (b 3))
     ∙ five xs h
 
+-- a reading's image has five octets
+pub reading_short : (x : Reading) → length (image_of x) ≤ 124
+reading_short x = omega arith
+
 -- readings with one image are equal
 pub same_reading : (x y : Reading) → image_of x ≡ image_of y → x ≡ y
 same_reading x y e =

@@ -1,5 +1,5 @@
 -- Panels: what they stand for, and their images.
-use Rattle.std.specs.Prelude.{◌≡◌, ℕ, Bool, List, ◌≢◌}
+use Rattle.std.specs.Prelude.{ℕ, Bool, List, ◌≢◌}
 use Rattle.cargo.specs.declared.panel.Panel.{Panel}
 use Rattle.cargo.specs.Inputs.{inputs_in, panel_image}
 

@@ -1,4 +1,6 @@
 // Cargo: what a host hands over and gets back unaltered through the network, by kinds that each have an image in octets.
+#![tactic(auto)]
+
 mod kinds;
 mod panel;
 mod passing;

@@ -10,7 +10,7 @@ use frame::{Fault, Frame, Refusal};
 
 // The cargo that a frame carries.
 fn cargo_in<C: Cargo>(frame: Frame<'_>) -> Result<C, Fault>
-    ensures { Delivers image (told frame.entry).message result }
+    ensures { Delivers C.image (told frame.entry).message result }
 {
     match frame {
         Frame::Data { payload, .. } => C::read(payload.octets),
@@ -21,8 +21,8 @@ fn cargo_in<C: Cargo>(frame: Frame<'_>) -> Result<C, Fault>
 // The cargo in a received data frame. A fault of the frame or of its payload is passed on as it is; a sound frame that is no data
 // frame is refused with Unwanted at 0. `delivered` says that a data frame that carries an image gives the value back.
 pub fn receive<C: Cargo>(octets: &[u8]) -> Result<C, Fault>
-    ensures answer { Receives image octets.now result }
-    ensures delivered { Delivered image octets.now result }
+    ensures answer { Receives C.image octets.now result }
+    ensures delivered { Delivered C.image octets.now result }
 {
     cargo_in(frame::read(octets)?)
 }
@@ -30,7 +30,7 @@ pub fn receive<C: Cargo>(octets: &[u8]) -> Result<C, Fault>
 // Reads the first octets of a buffer.
 fn read_start<C: Cargo>(buffer: &[u8], count: usize) -> Result<C, Fault>
     requires { count ≤ length buffer.now }
-    ensures { ReadsStart image count buffer.now result }
+    ensures { ReadsStart C.image count buffer.now result }
 {
     C::read(&buffer[0..count])
 }
@@ -38,9 +38,9 @@ fn read_start<C: Cargo>(buffer: &[u8], count: usize) -> Result<C, Fault>
 // Writes cargo into the buffer and reads it back: the same value, if the buffer has room for the image.
 // `apart` says that two values with one image are equal.
 pub fn write_and_read<C: Cargo>(cargo: &C, buffer: &mut [u8]) -> Result<C, Fault>
-    ensures answer { result ≡ returning image cargo.now buffer.old }
-    ensures memory { buffer.new ≡ left_by (fitting (image cargo.now) buffer.old) (image cargo.now) buffer.old }
-    ensures apart { Apart image }
+    ensures answer { result ≡ returning C.image cargo.now buffer.old }
+    ensures memory { buffer.new ≡ left_by (fitting (C.image cargo.now) buffer.old) (C.image cargo.now) buffer.old }
+    ensures apart { Apart C.image }
 {
     let written = cargo.write(buffer)?;
     read_start(buffer, written)

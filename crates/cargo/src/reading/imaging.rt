@@ -1,8 +1,7 @@
 // Readings and their images.
 ghost use Rattle.std.specs.Prelude.{◌≡◌, length, MatchOption, ◌≢◌};
 ghost use Rattle.cargo.specs.Readings.{reading_image, image_of};
-ghost use Rattle.cargo.specs.Complements.{same_reading};
-ghost use Rattle.std.proofs.Common.{rules, arith};
+ghost use Rattle.cargo.specs.Complements.{reading_short, same_reading};
 
 use super::Reading;
 use crate::kinds::Cargo;
@@ -25,7 +24,7 @@ fn parts(octets: &[u8]) -> Option<(i32, u8)>
 impl Cargo for Reading {
     ghost image = { image_of };
 
-    ghost short = { first_of (Prim.search rules, Prim.grind (arith, Self.row.coded.inj)) };
+    ghost short = { reading_short };
 
     ghost apart = { same_reading };
 

@@ -11,7 +11,7 @@ spelled l = get_or l 0 0 ∷ get_or l 1 0 ∷ get_or l 2 0 ∷ get_or l 3 0 ∷ 
 pub returns : goal.returns
 returns c =
     let p = c.args.self in
-    let e : c.to-le-bytes.result ≡ little 8 p.inputs = c.to-le-bytes.ensures ∙ little_eight p.inputs in
+    let e : c.to_le_bytes.result ≡ little 8 p.inputs = c.to_le_bytes.ensures ∙ little_eight p.inputs in
     record {
       start = λ n h. ap (λ (l : List ℕ). take n (p.count ∷ spelled l)) e ∙ image_start p.count p.inputs n p.few p.unused h;
       laid_out = laid_out (inputs_of p);
