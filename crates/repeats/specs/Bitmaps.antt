@@ -1,5 +1,5 @@
 -- Group acknowledgment bitmaps: a bit for each base timeslot above R, which is one where the timeslot is acknowledged.
-use Rattle.std.specs.Prelude.{◌≡◌, ℕ, zero, suc, ◌+◌, ◌-◌, ◌/◌, ◌%◌, ◌^◌, ◌≤◌, Bool, cond, not, ◌&&◌, List, length, set, replicate, ◌==◌, bit_or, nat_lt, slice_set}
+use Rattle.std.specs.Prelude.{◌≡◌, ℕ, zero, suc, ◌+◌, ◌-◌, ◌/◌, ◌%◌, ◌^◌, ◌≤◌, Bool, cond, not, ◌&&◌, List, length, replicate, ◌==◌, bit_or, nat_lt, slice_set}
 use Rattle.frame.specs.Octets.{bits, octet}
 use Rattle.plan.specs.declared.grant.Grant.{Grant}
 use Rattle.plan.specs.declared.grant.Numbers.{Numbers}

@@ -1,4 +1,6 @@
 // Group acknowledgments and retransmissions of the low latency mode (LLDN) of IEEE 802.15.4: which device repeats in which timeslot.
+#![tactic(auto)]
+
 mod bitmap;
 mod starts;
 #[cfg(test)]

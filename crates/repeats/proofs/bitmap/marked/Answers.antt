@@ -16,8 +16,8 @@ was_long n xs ys f b e h = sym (length-with_timeslots n xs f b) ∙ ap length (s
 
 pub loop-before-preserved : goal.loop-before-preserved
 loop-before-preserved c = (
-  ap length c.mark-timeslot.ensures ∙ length-with_timeslot c.args.numbers c.loop-before.marked _ ∙ c.loop-before.invariant.0,
-  one_more c.args.numbers c.args.bitmap c.loop-before.marked _ c.args.grant.first c.loop-before.before c.loop-before.invariant.1 c.mark-timeslot.ensures,
+  ap length c.mark_timeslot.ensures ∙ length-with_timeslot c.args.numbers c.loop-before.marked _ ∙ c.loop-before.invariant.0,
+  one_more c.args.numbers c.args.bitmap c.loop-before.marked _ c.args.grant.first c.loop-before.before c.loop-before.invariant.1 c.mark_timeslot.ensures,
 )
 
 -- what the loop ends with is the marked bitmap

@@ -6,13 +6,13 @@ pub returns-in_err-i : goal.returns-in_err-i
 returns-in_err-i g c =
     let m = g.P.SlotPlan.meaning c.args.plan.now in
     let rules = g.met.P.SlotPlan.keeps c.args.plan.now in
-    c.from-residual.ensures ∙ no_holder m rules c.args.t c.holder.result c.holder.ensures c.in_err-i.was
+    c.from_residual.ensures ∙ no_holder m rules c.args.t c.holder.result c.holder.ensures c.in_err-i.was
 
 pub returns-in_err-grant : goal.returns-in_err-grant
 returns-in_err-grant g c =
     let m = g.P.SlotPlan.meaning c.args.plan.now in
     let rules = g.met.P.SlotPlan.keeps c.args.plan.now in
-    c.from-residual-in_err-grant.ensures
+    c.from_residual-in_err-grant.ensures
     ∙ no_grant m rules c.args.t c.holder.result c.holder.ensures c.in_ok-i.i c.grant.result c.in_ok-i.was c.grant.ensures c.in_err-grant.was
 
 pub returns-then-grant-t : goal.returns-then-grant-t

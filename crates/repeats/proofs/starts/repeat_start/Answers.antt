@@ -16,19 +16,19 @@ module _ (n : Numbers) (xs : List ℕ) (g : Grant) (z : ℕ) (counted : z ≡ ze
   late : room ≡ false → None ≡ repeat_start n xs g
   late r = let past = leb-false _ _ (sym tested ∙ r) in sym (too_late n xs g (omega arith))
 
-pub returns-then-not-wants-repeat : goal.returns-then-not-wants-repeat
-returns-then-not-wants-repeat c = sym (unwanted c.args.numbers c.args.octets.now c.args.grant (sym c.wants_repeat.ensures ∙ c.if-not-wants-repeat.true))
+pub returns-then-not-wants_repeat : goal.returns-then-not-wants_repeat
+returns-then-not-wants_repeat c = sym (unwanted c.args.numbers c.args.octets.now c.args.grant (sym c.wants_repeat.ensures ∙ c.if-not-wants_repeat.true))
 
-pub returns-then-has-room : goal.returns-then-has-room
-returns-then-has-room c =
-    served c.args.numbers c.args.octets.now c.args.grant c.zeros-before-before.result c.zeros-before-before.ensures c.has-room.result c.has-room.ensures
-    c.wants_repeat.result c.wants_repeat.ensures c.if-not-wants-repeat.false c.if-has-room.true
+pub returns-then-has_room : goal.returns-then-has_room
+returns-then-has_room c =
+    served c.args.numbers c.args.octets.now c.args.grant c.zeros_before-before.result c.zeros_before-before.ensures c.has_room.result c.has_room.ensures
+    c.wants_repeat.result c.wants_repeat.ensures c.if-not-wants_repeat.false c.if-has_room.true
 
-pub returns-else-has-room : goal.returns-else-has-room
-returns-else-has-room c =
-    late c.args.numbers c.args.octets.now c.args.grant c.zeros-before-before.result c.zeros-before-before.ensures c.has-room.result c.has-room.ensures c.if-has-room.false
+pub returns-else-has_room : goal.returns-else-has_room
+returns-else-has_room c =
+    late c.args.numbers c.args.octets.now c.args.grant c.zeros_before-before.result c.zeros_before-before.ensures c.has_room.result c.has_room.ensures c.if-has_room.false
 
 pub overflow_add-result : goal.overflow_add-result
 overflow_add-result c =
-    let z = c.zeros-before-before.ensures in
+    let z = c.zeros_before-before.ensures in
     omega (arith, zeros_few c.args.numbers c.args.octets.now c.args.grant.first)

@@ -31,12 +31,12 @@ module _ (m : PlanMeaning) (n : Numbers) (xs : List ℕ) (t : ℕ) (same : n ≡
 named : (m : PlanMeaning) (xs : List ℕ) (t : ℕ) (r : Option ℕ) → Rules m → r ≡ repeater_at m xs t → BitsAlike m xs → NamesRepeater m xs t r
 named m xs t r rules e alike = subst (NamesRepeater m xs t) (sym e) (names_repeater m xs rules alike t)
 
-pub returns-then-repeats-from : goal.returns-then-repeats-from
-returns-then-repeats-from g c =
+pub returns-then-repeats_from : goal.returns-then-repeats_from
+returns-then-repeats_from g c =
     let m = g.P.SlotPlan.meaning c.args.plan.now in
     let rules = g.met.P.SlotPlan.keeps c.args.plan.now in
     let xs = c.args.octets.now in
-    let e = found m c.numbers-numbers.result xs c.args.t c.numbers-numbers.ensures c.loop-before.before c.grant.result c.in-Some.grant c.loop-before.invariant (omega arith) c.grant.ensures c.in-Some.is c.repeats-from.result c.repeats-from.ensures c.if-repeats-from.true in
+    let e = found m c.numbers-numbers.result xs c.args.t c.numbers-numbers.ensures c.loop-before.before c.grant.result c.in-Some.grant c.loop-before.invariant (omega arith) c.grant.ensures c.in-Some.is c.repeats_from.result c.repeats_from.ensures c.if-repeats_from.true in
     record { answer = e; names = named m xs c.args.t _ rules e; apart = apart m xs rules; within = within m xs; order = in_order m xs rules }
 
 pub returns : goal.returns

@@ -22,16 +22,16 @@ module _ (m : PlanMeaning) (n : Numbers) (xs : List ℕ) (t : ℕ) (same : n ≡
 named : (m : PlanMeaning) (xs : List ℕ) (t : ℕ) (r : Option ℕ) → Rules m → r ≡ sender_at m xs t → BitsAlike m xs → NamesSender m xs t r
 named m xs t r rules e alike = subst (NamesSender m xs t) (sym e) (names_sender m xs rules alike t)
 
-pub returns-then-is-for-retransmission : goal.returns-then-is-for-retransmission
-returns-then-is-for-retransmission g c =
+pub returns-then-is_for_retransmission : goal.returns-then-is_for_retransmission
+returns-then-is_for_retransmission g c =
     let m = g.P.SlotPlan.meaning c.args.plan.now in
     let rules = g.met.P.SlotPlan.keeps c.args.plan.now in
-    let e = repeated m c.numbers.result c.args.octets.now c.args.t c.numbers.ensures c.is-for-retransmission.result c.is-for-retransmission.ensures c.repeater.result c.if-is-for-retransmission.true c.repeater.ensures.answer in
+    let e = repeated m c.numbers.result c.args.octets.now c.args.t c.numbers.ensures c.is_for_retransmission.result c.is_for_retransmission.ensures c.repeater.result c.if-is_for_retransmission.true c.repeater.ensures.answer in
     record { answer = e; names = named m c.args.octets.now c.args.t c.repeater.result rules e }
 
-pub returns-else-is-for-retransmission : goal.returns-else-is-for-retransmission
-returns-else-is-for-retransmission g c =
+pub returns-else-is_for_retransmission : goal.returns-else-is_for_retransmission
+returns-else-is_for_retransmission g c =
     let m = g.P.SlotPlan.meaning c.args.plan.now in
     let rules = g.met.P.SlotPlan.keeps c.args.plan.now in
-    let e = begun m c.numbers.result c.args.octets.now c.args.t c.numbers.ensures c.is-for-retransmission.result c.is-for-retransmission.ensures c.beginner.result c.if-is-for-retransmission.false c.beginner.ensures in
+    let e = begun m c.numbers.result c.args.octets.now c.args.t c.numbers.ensures c.is_for_retransmission.result c.is_for_retransmission.ensures c.beginner.result c.if-is_for_retransmission.false c.beginner.ensures in
     record { answer = e; names = named m c.args.octets.now c.args.t c.beginner.result rules e }
