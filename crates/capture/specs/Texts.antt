@@ -1,5 +1,5 @@
 -- What is reported of a frame, as text: `name@place=value` for each part and each number of it.
-use Rattle.std.specs.Prelude.{ℕ, List, ◌∷◌, ◌++◌, reverse, codes, decimal}
+use Rattle.std.specs.Prelude.{ℕ, List, ◌++◌, reverse, codes, decimal}
 use Rattle.frame.specs.declared.frames.Acknowledged.{Acknowledged}
 use Rattle.frame.specs.declared.frames.BeaconHeader.{BeaconHeader}
 use Rattle.frame.specs.declared.frames.BeaconState.{BeaconState}
@@ -15,7 +15,7 @@ use Rattle.frame.specs.declared.frames.Part.{Part}
 use Rattle.frame.specs.declared.frames.Wish.{Wish}
 use Rattle.frame.specs.Messages.{type_code}
 use Rattle.frame.specs.Octets.{octet, little}
-use Rattle.hexadecimal.specs.Grammar.{text_of, octet_digits, spelling}
+use Rattle.hexadecimal.specs.Grammar.{text_of, octet_digits}
 
 -- a part as `name@place=octets`, the octets in hexadecimal, and `-` for none
 abbrev pub part_text : List ℕ → Part → List ℕ

@@ -1,4 +1,6 @@
 // What a sniffer reports of each line of a radio capture.
+#![tactic(auto)]
+
 mod reports;
 mod shown;
 mod tallies;

@@ -169,7 +169,7 @@ fn show_beacon<W: fmt::Write>(
     state: BeaconState<'_>,
     f: &mut fmt::Formatter<W>,
 ) -> fmt::Result
-    ensures { WritesOnOk write_str_gives f.old result (beacon_text start.entry.control start.entry.flags header.0 state.entry) f.new }
+    ensures { WritesOnOk W.write_str_gives f.old result (beacon_text start.entry.control start.entry.flags header.0 state.entry) f.new }
 {
     match state {
         BeaconState::Online { timeslots, bitmap } => {
@@ -196,7 +196,7 @@ fn show_response<W: fmt::Write>(
     wish: Wish,
     f: &mut fmt::Formatter<W>,
 ) -> fmt::Result
-    ensures { WritesOnOk write_str_gives f.old result (response_text start.entry.control start.entry.address wish) f.new }
+    ensures { WritesOnOk W.write_str_gives f.old result (response_text start.entry.control start.entry.address wish) f.new }
 {
     let width = wish.width;
     let direction = direction_name(wish.direction);
@@ -214,7 +214,7 @@ fn show_status<W: fmt::Write>(
     width: u8,
     f: &mut fmt::Formatter<W>,
 ) -> fmt::Result
-    ensures { WritesOnOk write_str_gives f.old result (status_text start.entry.control start.entry.address simple wish first width) f.new }
+    ensures { WritesOnOk W.write_str_gives f.old result (status_text start.entry.control start.entry.address simple wish first width) f.new }
 {
     let wanted = wish.width;
     let direction = direction_name(wish.direction);
@@ -230,7 +230,7 @@ fn show_request<W: fmt::Write>(
     configuration: Configuration,
     f: &mut fmt::Formatter<W>,
 ) -> fmt::Result
-    ensures { WritesOnOk write_str_gives f.old result (request_text start.entry.control start.entry.address parameters.entry configuration) f.new }
+    ensures { WritesOnOk W.write_str_gives f.old result (request_text start.entry.control start.entry.address parameters.entry configuration) f.new }
 {
     let management = octet_at(parameters.octets, 10);
     let grant = Granted {
@@ -247,7 +247,7 @@ fn show_command<W: fmt::Write>(
     command: Command,
     f: &mut fmt::Formatter<W>,
 ) -> fmt::Result
-    ensures { WritesOnOk write_str_gives f.old result (command_text control.entry parameters.entry command) f.new }
+    ensures { WritesOnOk W.write_str_gives f.old result (command_text control.entry parameters.entry command) f.new }
 {
     match command {
         Command::DiscoverResponse { address, wish } => show_response(
@@ -292,7 +292,7 @@ fn show_data<W: fmt::Write>(
     payload: Part<'_>,
     f: &mut fmt::Formatter<W>,
 ) -> fmt::Result
-    ensures { WritesOnOk write_str_gives f.old result (data_text control.entry payload.entry) f.new }
+    ensures { WritesOnOk W.write_str_gives f.old result (data_text control.entry payload.entry) f.new }
 {
     let control = Named {
         name: "control",
@@ -310,7 +310,7 @@ fn show_acknowledgment<W: fmt::Write>(
     acknowledged: Acknowledged,
     f: &mut fmt::Formatter<W>,
 ) -> fmt::Result
-    ensures { WritesOnOk write_str_gives f.old result (acknowledgment_text control.entry acknowledged) f.new }
+    ensures { WritesOnOk W.write_str_gives f.old result (acknowledgment_text control.entry acknowledged) f.new }
 {
     let control = Named {
         name: "control",

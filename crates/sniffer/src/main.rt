@@ -1,4 +1,6 @@
 // Prints a radio capture, read from standard input, with each frame taken apart.
+#![tactic(auto)]
+
 use capture::{Report, Tally};
 use hexadecimal::HexLine;
 use std::io;

@@ -1,4 +1,6 @@
 // Prints worked frames: what each writer writes, and how it reads back.
+#![tactic(auto)]
+
 use capture::Report;
 use frame::{
     Acknowledged, BeaconHeader, Command, Configuration, Direction, Fault, ManagementWidth, Wish,

@@ -6,4 +6,4 @@ use Rattle.capture.proofs.reports.Report.of.Goals as goal
 
 pub returns-in-Octets : goal.returns-in-Octets
 returns-in-Octets c = λ t read.
-    ap (λ (r : Reported). Some r) c.of-octets.ensures ∙ whole_line (line_of t) _ (c.in-Octets.ensures t read)
+    ap (λ (r : Reported). Some r) c.of_octets.ensures ∙ whole_line (line_of t) _ (c.in-Octets.ensures t read)
