@@ -1,4 +1,6 @@
 // Known examples of the low latency mode (LLDN) of IEEE 802.15.4: slot sizes, a beacon, repeats, fates, refusals and images.
+#![tactic(auto)]
+
 ghost use Rattle.std.specs.Prelude.{◌≡◌, length};
 ghost use Rattle.known.specs.Known.{cases, KnownCasesHold};
 
