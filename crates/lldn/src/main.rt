@@ -1,4 +1,6 @@
 // The console: runs a script from standard input, one command a line, and prints the answers.
+#![tactic(auto)]
+
 mod cargoes;
 mod console;
 mod plans;
