@@ -1,4 +1,4 @@
-use Rattle.std.proofs.Common.{◌≡◌, Some, sym, ap, ◌∙◌}
+use Rattle.std.proofs.Common.{◌≡◌, Some, sym, ap}
 use Rattle.plan.specs.Answers.{number_with}
 use Rattle.coordinator.specs.Stages.{known}
 use Rattle.coordinator.proofs.Replies.{known_within}

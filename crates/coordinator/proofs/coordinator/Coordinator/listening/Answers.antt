@@ -31,5 +31,5 @@ refused m s k t n f r same e by =
 
 pub returns-in_err-admit : goal.returns-in_err-admit
 returns-in_err-admit g c =
-    refused (g.P.SlotPlan.meaning c.args.self.now.plan) c.args.self.now.inner c.args.superframe.now.number c.args.t c.numbers.result c.in_err-admit.field-0.0 c.from-residual.result
-    c.numbers.ensures c.in_err-admit.ensures c.from-residual.ensures.1
+    refused (g.P.SlotPlan.meaning c.args.self.now.plan) c.args.self.now.inner c.args.superframe.now.number c.args.t c.numbers.result c.in_err-admit.field-0.0 c.from_residual.result
+    c.numbers.ensures c.in_err-admit.ensures c.from_residual.ensures.1

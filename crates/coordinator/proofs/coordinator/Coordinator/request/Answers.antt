@@ -6,7 +6,7 @@ pub returns : goal.returns
 returns g c =
     record {
       replied =
-          asked_replied (g.P.SlotPlan.meaning c.args.self.now.plan) c.args.self.now.inner c.args.address c.in_ok-i.i c.numbers.result c.in-Some.grant c.args.buffer.now c.hand-out.result c.hand-out.new.self c.hand-out.new.buffer
-          c.in_ok-i.ensures.answer c.numbers.ensures c.in-Some.ensures c.hand-out.ensures;
+          asked_replied (g.P.SlotPlan.meaning c.args.self.now.plan) c.args.self.now.inner c.args.address c.in_ok-i.i c.numbers.result c.in-Some.grant c.args.buffer.now c.hand_out.result c.hand_out.new.self c.hand_out.new.buffer
+          c.in_ok-i.ensures.answer c.numbers.ensures c.in-Some.ensures c.hand_out.ensures;
       plan = refl;
     }

@@ -1,9 +1,8 @@
-use Rattle.std.proofs.Common.{◌≡◌, ℕ, ◌≤◌, List, length, take, Result, sym, ap, ◌∙◌, subst, arith, length-take}
+use Rattle.std.proofs.Common.{◌≡◌, ℕ, ◌≤◌, List, length, take, sym, ap, ◌∙◌, arith, length-take}
 use Rattle.std.proofs.lemmas.Bool.{cond-false, le-ltb}
-use Rattle.frame.specs.declared.faults.Fault.{Fault}
 use Rattle.frame.specs.declared.frames.BeaconHeader.{BeaconHeader}
 use Rattle.frame.specs.Messages.{Message, online_beacon, octets_of}
-use Rattle.frame.specs.Writing.{fitting, left_by, writing, Written}
+use Rattle.frame.specs.Writing.{fitting, left_by, writing}
 use Rattle.plan.specs.declared.grant.Numbers.{Numbers}
 use Rattle.plan.specs.Rules.{NumbersKeep, bitmap_octets}
 use Rattle.coordinator.specs.declared.state.Inner.{Inner}
@@ -39,12 +38,12 @@ pub returns-in-Online : goal.returns-in-Online
 returns-in-Online c =
     let n = c.args.numbers in
     let s = c.args.self.now in
-    let done = c.write-online-beacon.ensures in
+    let done = c.write_online_beacon.ensures in
     let buffer = c.args.buffer.now in
     record {
       answer = done.answer ∙ writes n c.requires s c.header-header.result c.bitmap_octets.result c.header-header.ensures c.bitmap_octets.ensures c.in-Online.is buffer;
       memory =
           done.memory
-          ∙ ap (λ (x : List ℕ). left_by c.write-online-beacon.result x buffer)
+          ∙ ap (λ (x : List ℕ). left_by c.write_online_beacon.result x buffer)
           (same n c.requires s c.header-header.result c.bitmap_octets.result c.header-header.ensures c.bitmap_octets.ensures c.in-Online.is);
     }
