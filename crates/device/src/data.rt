@@ -33,8 +33,8 @@ impl<C: Cargo + Drop> Device<C> {
     // Hands over cargo, which waits for the device's timeslot. Refused with Mode without a configuration, with Waiting where other
     // cargo waits, and with Size where the grant does not carry it; the cargo is then let go.
     pub fn offer(&mut self, cargo: C) -> Result<(), Fault>
-        ensures answer { result ≡ offer_answer image self.old cargo }
-        ensures state { self.new ≡ offer_state image self.old cargo }
+        ensures answer { result ≡ offer_answer C.image self.old cargo }
+        ensures state { self.new ≡ offer_state C.image self.old cargo }
     {
         let Some(configuration) = self.configuration else {
             return Err(Refusal::Mode.at(0));

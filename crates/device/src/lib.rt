@@ -1,4 +1,6 @@
 // A device of a network in the low latency mode (LLDN) of IEEE 802.15.4.
+#![tactic(auto)]
+
 mod beacons;
 mod data;
 mod fates;

@@ -32,8 +32,8 @@ fn is_online(news: News) -> bool
 
 // Writes a data frame with cargo.
 fn write_cargo<C: Cargo>(cargo: &C, buffer: &mut [u8]) -> Result<usize, Fault>
-    ensures answer { result ≡ fitting (octets_of (data_frame (image cargo.now))) buffer.old }
-    ensures memory { buffer.new ≡ left_by result (octets_of (data_frame (image cargo.now))) buffer.old }
+    ensures answer { result ≡ fitting (octets_of (data_frame (C.image cargo.now))) buffer.old }
+    ensures memory { buffer.new ≡ left_by result (octets_of (data_frame (C.image cargo.now))) buffer.old }
 {
     let mut payload = [0; 124];
     let length = cargo.write(&mut payload)?;
@@ -47,9 +47,9 @@ impl<C: Cargo + Drop> Device<C> {
         configuration: Configuration,
         buffer: &mut [u8],
     ) -> Result<usize, Fault>
-        ensures answer { result ≡ turn_answer image (waiting_turn image configuration self.old) buffer.old }
-        ensures state { self.new ≡ turn_state self.old (waiting_turn image configuration self.old) result }
-        ensures memory { buffer.new ≡ turn_memory image (waiting_turn image configuration self.old) result buffer.old }
+        ensures answer { result ≡ turn_answer C.image (waiting_turn C.image configuration self.old) buffer.old }
+        ensures state { self.new ≡ turn_state self.old (waiting_turn C.image configuration self.old) result }
+        ensures memory { buffer.new ≡ turn_memory C.image (waiting_turn C.image configuration self.old) result buffer.old }
     {
         let Some(cargo) = &self.waiting else {
             return Ok(0);
@@ -64,9 +64,9 @@ impl<C: Cargo + Drop> Device<C> {
 
     // Sends the repeat that is due from a timeslot on.
     fn send_repeat(&mut self, timeslot: u8, buffer: &mut [u8]) -> Result<usize, Fault>
-        ensures answer { result ≡ turn_answer image (again_turn timeslot self.old.repeat) buffer.old }
+        ensures answer { result ≡ turn_answer C.image (again_turn timeslot self.old.repeat) buffer.old }
         ensures state { self.new ≡ turn_state self.old (again_turn timeslot self.old.repeat) result }
-        ensures memory { buffer.new ≡ turn_memory image (again_turn timeslot self.old.repeat) result buffer.old }
+        ensures memory { buffer.new ≡ turn_memory C.image (again_turn timeslot self.old.repeat) result buffer.old }
     {
         let Some(repeat) = &self.repeat else {
             return Ok(0);
@@ -82,9 +82,9 @@ impl<C: Cargo + Drop> Device<C> {
     // Writes what the device sends in a timeslot into the buffer and answers its length, which is 0 where it sends nothing.
     // Only after an Online beacon does it send: in its own timeslot the cargo that waits, and elsewhere a repeat.
     pub fn send(&mut self, timeslot: u8, buffer: &mut [u8]) -> Result<usize, Fault>
-        ensures answer { result ≡ send_answer image self.old timeslot buffer.old }
-        ensures state { self.new ≡ send_state image self.old timeslot buffer.old }
-        ensures memory { buffer.new ≡ send_memory image self.old timeslot buffer.old }
+        ensures answer { result ≡ send_answer C.image self.old timeslot buffer.old }
+        ensures state { self.new ≡ send_state C.image self.old timeslot buffer.old }
+        ensures memory { buffer.new ≡ send_memory C.image self.old timeslot buffer.old }
     {
         if is_no_timeslot(self.configuration, timeslot) {
             return Err(Refusal::Timeslot.at(timeslot as usize));

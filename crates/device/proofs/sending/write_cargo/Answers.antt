@@ -10,6 +10,6 @@ returns g c =
     let same : take (c.in_ok-length.length - 0) c.write.new.buffer ≡ xs =
     start_written xs _ _ c.write.result c.in_ok-length.length c.write.ensures.answer c.write.ensures.memory c.in_ok-length.was in
     record {
-      answer = answered xs _ c.args.buffer.now _ _ few same c.write-data.ensures;
-      memory = remembered xs _ c.args.buffer.now _ _ few same c.write-data.ensures;
+      answer = answered xs _ c.args.buffer.now _ _ few same c.write_data.ensures;
+      memory = remembered xs _ c.args.buffer.now _ _ few same c.write_data.ensures;
     }

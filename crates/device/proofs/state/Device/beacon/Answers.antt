@@ -8,5 +8,5 @@ pub returns : goal.returns
 returns g c =
     let v = c.args.self.now in
     let xs = c.args.octets.now in
-    let a : Ok c.told-by-fate.result ≡ beacon_answer v xs = search rules in
+    let a : Ok c.told_by-fate.result ≡ beacon_answer v xs = search rules in
     record { answer = a; state = search rules; grounds = grounded v (beacon_taken v.configuration xs) _ a }
