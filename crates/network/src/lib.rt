@@ -1,4 +1,6 @@
 // Networks in the low latency mode (LLDN) of IEEE 802.15.4: a coordinator, its devices, and what holds of every run of them.
+#![tactic(auto)]
+
 mod making;
 
 pub use making::coordinator_for;

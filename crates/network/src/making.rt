@@ -21,7 +21,7 @@ fn fresh<P: SlotPlan>(plan: P) -> Coordinator<P>
 pub fn coordinator_for<P: SlotPlan, C: Cargo>(plan: P) -> Coordinator<P>
     ensures state { result.inner ≡ made }
     ensures plan { result.plan ≡ plan }
-    ensures guarantee { Guarantee C.Cargo.image (P.SlotPlan.meaning plan) }
+    ensures guarantee { Guarantee C.image (P.meaning plan) }
     ensures example { Example }
 {
     fresh(plan)

@@ -1,4 +1,3 @@
-use Rattle.std.proofs.Common.{rules}
 use Rattle.network.proofs.making.coordinator_for.Goals as goal
 use Rattle.network.proofs.Example.{example}
 use Rattle.network.proofs.Holds.{guarantee}
