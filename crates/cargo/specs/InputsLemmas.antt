@@ -127,8 +127,8 @@ number_step inputs k on h e =
     ∙ rw (length-take-le k inputs (omega arith), e)
 
 -- setting bit k of a number of k bits
-pub set-bit : (k n : ℕ) → n < 2 ^ k → bit_or n (2 ^ k) ≡ n + 1 * 2 ^ k
-set-bit k n h =
+pub set_bit : (k n : ℕ) → n < 2 ^ k → bit_or n (2 ^ k) ≡ n + 1 * 2 ^ k
+set_bit k n h =
     let one : 1 * 2 ^ k ≡ 2 ^ k = omega arith in
     let e : bit_or (1 * 2 ^ k) n ≡ 1 * 2 ^ k + n = or_shifted 1 k n h in
     or_comm n (2 ^ k) ∙ (rw one at e) ∙ omega arith
@@ -139,7 +139,7 @@ step_on inputs k n h on e =
     let below = number_below (take k inputs) in
     let front : length (take k inputs) ≡ k = length-take-le k inputs (omega arith) in
     let small : number (take k inputs) < 2 ^ k = rw front at below in
-    rw e (set-bit k (number (take k inputs)) small ∙ sym (number_step inputs k true h on))
+    rw e (set_bit k (number (take k inputs)) small ∙ sym (number_step inputs k true h on))
 
 pub step_off : (inputs : List Bool) (k n : ℕ) → k < length inputs → slice_index_or inputs k false ≡ false → n ≡ number (take k inputs) → n ≡ number (take (k + 1) inputs)
 step_off inputs k n h off e = e ∙ sym (number_step inputs k false h off ∙ omega arith)

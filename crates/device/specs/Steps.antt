@@ -336,8 +336,8 @@ take_state_by v (Ok acknowledgment) = in_phase v phase.Known
 take_state_by v (Ok (configured c)) = configured_by v c
 take_state_by v (Err f) = v
 
-abbrev pub take-answer : {C : Type 0} → Device C → List ℕ → Result (Unit {0}) Fault
-take-answer v xs = take_answer_by (taking v xs)
+abbrev pub take_answer : {C : Type 0} → Device C → List ℕ → Result (Unit {0}) Fault
+take_answer v xs = take_answer_by (taking v xs)
 
-abbrev pub take-state : {C : Type 0} → Device C → List ℕ → Device C
-take-state v xs = take_state_by v (taking v xs)
+abbrev pub take_state : {C : Type 0} → Device C → List ℕ → Device C
+take_state v xs = take_state_by v (taking v xs)

@@ -3,7 +3,7 @@ ghost use Rattle.std.specs.Prelude.{◌≡◌};
 ghost use Rattle.frame.specs.Views.{told};
 ghost use Rattle.frame.specs.Writing.{fitting, left_by};
 ghost use Rattle.device.specs.Phases.{thanked};
-ghost use Rattle.device.specs.Steps.{status, management_in, write_answer, write_state, write_memory, is_missed, estranged, configuring, taken_by, taking, take-answer, take-state};
+ghost use Rattle.device.specs.Steps.{status, management_in, write_answer, write_state, write_memory, is_missed, estranged, configuring, taken_by, taking, take_answer, take_state};
 ghost use Rattle.device.specs.Views.{taken_seen};
 
 use crate::rules::keeps_rules;
@@ -155,8 +155,8 @@ impl<C: Cargo + Drop> Device<C> {
     // Takes a management frame of the coordinator: the acknowledgment of the device's answer to a discovery, or its configuration.
     // A device that waits for neither refuses with Mode, whatever the octets.
     pub fn take(&mut self, octets: &[u8]) -> Result<(), Fault>
-        ensures answer { result ≡ take-answer self.old octets.now }
-        ensures state { self.new ≡ take-state self.old octets.now }
+        ensures answer { result ≡ take_answer self.old octets.now }
+        ensures state { self.new ≡ take_state self.old octets.now }
     {
         match self.taking(octets)? {
             Brought::Acknowledgment => self.phase = Phase::Known,

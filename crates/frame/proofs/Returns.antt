@@ -27,19 +27,19 @@ Fit (command_frame (commands.DiscoverResponse address wish)) = address < 2 ^ 64
 Fit (command_frame (commands.ConfigurationStatus address simple wish first width)) = address < 2 ^ 64
 Fit (command_frame (commands.ConfigurationRequest address c)) = address < 2 ^ 64
 
-abbrev pub ToldBy : Message → Told
-ToldBy m = record { message = m; lent = parts (format_for m) (octets_of m) }
+abbrev pub told_of : Message → Told
+told_of m = record { message = m; lent = parts (format_for m) (octets_of m) }
 
 -- a command with a wish, by its direction
-discover_back : (address width : ℕ) (d : Direction) → address < 2 ^ 64 → reading (octets_of (command_frame (commands.DiscoverResponse address (record { width = width; direction = d })))) ≡ Ok (ToldBy (command_frame (commands.DiscoverResponse address (record { width = width; direction = d }))))
+discover_back : (address width : ℕ) (d : Direction) → address < 2 ^ 64 → reading (octets_of (command_frame (commands.DiscoverResponse address (record { width = width; direction = d })))) ≡ Ok (told_of (command_frame (commands.DiscoverResponse address (record { width = width; direction = d }))))
 discover_back address width directions.Uplink fit = rw (value_little 8 address fit)
 discover_back address width directions.Bidirectional fit = rw (value_little 8 address fit)
 
-status_back : (address simple wanted : ℕ) (d : Direction) (first width : ℕ) → address < 2 ^ 64 → reading (octets_of (command_frame (commands.ConfigurationStatus address simple (record { width = wanted; direction = d }) first width))) ≡ Ok (ToldBy (command_frame (commands.ConfigurationStatus address simple (record { width = wanted; direction = d }) first width)))
+status_back : (address simple wanted : ℕ) (d : Direction) (first width : ℕ) → address < 2 ^ 64 → reading (octets_of (command_frame (commands.ConfigurationStatus address simple (record { width = wanted; direction = d }) first width))) ≡ Ok (told_of (command_frame (commands.ConfigurationStatus address simple (record { width = wanted; direction = d }) first width)))
 status_back address simple wanted directions.Uplink first width fit = rw (value_little 8 address fit)
 status_back address simple wanted directions.Bidirectional first width fit = rw (value_little 8 address fit)
 
-pub reads_back : (m : Message) → Fit m → length (octets_of m) ≤ (extent (format_for m)).most → reading (octets_of m) ≡ Ok (ToldBy m)
+pub reads_back : (m : Message) → Fit m → length (octets_of m) ≤ (extent (format_for m)).most → reading (octets_of m) ≡ Ok (told_of m)
 reads_back (online_beacon h n bitmap) fit short = grind (arith, nat_tests)
 reads_back (discovery_beacon h g) fit short = rw (low_bits 4 g (lit< tt), middle_bit 4 g (lit< tt), high_bits 4 g (lit< tt) fit)
 reads_back (configuration_beacon h g) fit short = rw (low_bits 6 g (lit< tt), middle_bit 6 g (lit< tt), high_bits 6 g (lit< tt) fit)
@@ -77,5 +77,5 @@ written m xs before r after same fit short e f =
     record {
       answer = rw whole answer;
       memory = memory;
-      reads_back = at_the_start (octets_of m) before after r (λ xs. reading xs ≡ Ok (ToldBy m)) (reads_back m fit short) answer memory;
+      reads_back = at_the_start (octets_of m) before after r (λ xs. reading xs ≡ Ok (told_of m)) (reads_back m fit short) answer memory;
     }

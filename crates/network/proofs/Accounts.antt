@@ -161,10 +161,10 @@ module _ {C : Type 0} where
   counted (Some w) (Some x) book = let a = length-map book (λ y. y.cargo) in let b = length-map book telling_of in omega arith
 
   module _ (waiting sent : Option C) (s : ℕ) (bit : Bool) (book : List (Line C)) where
-    abbrev Flown : List (Arrival C)
-    Flown = in_flight bit (length book) sent ++ arrivals_of book
+    abbrev flown_arrivals : List (Arrival C)
+    flown_arrivals = in_flight bit (length book) sent ++ arrivals_of book
 
-    accepted_at : (a : Arrival C) → Among a Flown → numbered (listed waiting ++ (listed sent ++ map (λ y. y.cargo) book)) a.number ≡ Some a.cargo
+    accepted_at : (a : Arrival C) → Among a flown_arrivals → numbered (listed waiting ++ (listed sent ++ map (λ y. y.cargo) book)) a.number ≡ Some a.cargo
     accepted_at a h =
         elim (flying bit (length book) sent (arrivals_of book) a h) [
           | inl e ↦ numbered_append (listed waiting) _ a.number a.cargo
@@ -176,7 +176,7 @@ module _ {C : Type 0} where
               (numbered_map (λ y. y.cargo) book a.number u.0 u.1 ∙ ap {B = Option C} Some (sym u.2.cargo))))
         ]
 
-    in_order : Falling Flown
+    in_order : Falling flown_arrivals
     in_order = flying_falling bit (length book) sent (arrivals_of book) (falling book) (λ a h. (let b = line_bound book a h in omega arith))
 
     told_later : (k : ℕ) (x : Telling) → numbered (map telling_of book) k ≡ Some x → (t : ℕ) × (numbered (since s sent ++ map (λ y. y.sent) book) k ≡ Some t) × (x.superframe ≡ suc t)
@@ -185,7 +185,7 @@ module _ {C : Type 0} where
         (u.0.sent, numbered_append (since s sent) _ k u.0.sent (numbered_map (λ y. y.sent) book k u.0 u.1), ap (λ (z : Telling). z.superframe) u.2)
 
     -- an arrival of a line whose fate was told
-    told_arrival : (k : ℕ) (y : Line C) (a : Arrival C) → numbered book k ≡ Some y → Among a Flown → a.number ≡ k → Of k y.cargo y.own y.again a
+    told_arrival : (k : ℕ) (y : Line C) (a : Arrival C) → numbered book k ≡ Some y → Among a flown_arrivals → a.number ≡ k → Of k y.cargo y.own y.again a
     told_arrival k y a h i e =
         elim (flying bit (length book) sent (arrivals_of book) a i) [
           | inl f ↦ (let b = numbered_bound book k y h in let g = f.0 in absurd (omega arith))
@@ -201,7 +201,7 @@ module _ {C : Type 0} where
         ]
 
     module _ (just : AllJust book) (k : ℕ) (x : Telling) (h : numbered (map telling_of book) k ≡ Some x) where
-      confirmed_handed : x.fate ≡ fate.Confirmed → ((a : Arrival C) × Among a Flown × (a.number ≡ k) × (a.own ≡ true)) × (x.online ≡ true)
+      confirmed_handed : x.fate ≡ fate.Confirmed → ((a : Arrival C) × Among a flown_arrivals × (a.number ≡ k) × (a.own ≡ true)) × (x.online ≡ true)
       confirmed_handed c =
           let u = numbered_unmap telling_of book k x h in
           let j = just_at book k u.0 just u.1 in
@@ -209,14 +209,14 @@ module _ {C : Type 0} where
           let a = to_arrival book k u.0 u.1 p.0 in
           ((a.0, flying_more bit (length book) sent (arrivals_of book) a.0 a.1, a.2, a.3), ap (λ (z : Telling). z.online) u.2 ∙ p.1)
 
-      handed_confirmed : ((a : Arrival C) × Among a Flown × (a.number ≡ k) × (a.own ≡ true)) × (x.online ≡ true) → x.fate ≡ fate.Confirmed
+      handed_confirmed : ((a : Arrival C) × Among a flown_arrivals × (a.number ≡ k) × (a.own ≡ true)) × (x.online ≡ true) → x.fate ≡ fate.Confirmed
       handed_confirmed p =
           let u = numbered_unmap telling_of book k x h in
           let j = just_at book k u.0 just u.1 in
           let o = told_arrival k u.0 p.0.0 u.1 p.0.1 p.0.2 in
           ap (λ (z : Telling). z.fate) u.2 ∙ j.handed_up (sym o.own_is ∙ p.0.3) (sym (ap (λ (z : Telling). z.online) u.2) ∙ p.1)
 
-      lost_never : x.fate ≡ fate.Lost → (a : Arrival C) → Among a Flown → a.number ≡ k → ⊥
+      lost_never : x.fate ≡ fate.Lost → (a : Arrival C) → Among a flown_arrivals → a.number ≡ k → ⊥
       lost_never c a i e =
           let u = numbered_unmap telling_of book k x h in
           let j = just_at book k u.0 just u.1 in
@@ -232,7 +232,7 @@ pub from_book : {C : Type 0} (image : C → List ℕ) (m : PlanMeaning) (devices
     → OwnFramesCarryTheirAcceptances m devices ds d image → RepeatsCarryWhatWasToldRepeated m devices ds d image → (simple : Option ℕ) (waiting sent : Option C) (k : ℕ) (bit : Bool) (book : List (Line C))
     → simple_of m (devices.address d) ≡ simple → Agrees m.numbers.retransmission simple d ds waiting sent k bit book → DeviceGuaranteed m devices ds d image
 from_book {C = C} image m devices ds d own again simple waiting sent k bit book q g =
-    let arrived : arrivals m.numbers.retransmission (simple_of m (devices.address d)) d ds ≡ Flown waiting sent k bit book =
+    let arrived : arrivals m.numbers.retransmission (simple_of m (devices.address d)) d ds ≡ flown_arrivals waiting sent k bit book =
     ap (λ (s : Option ℕ). arrivals m.numbers.retransmission s d ds) q ∙ g.arrives in
     record {
       accepted_before = λ x h. ap (λ (l : List C). numbered l x.number) g.accepts ∙ accepted_at waiting sent k bit book x (subst (λ (l : List (Arrival C)). Among x l) arrived h);

@@ -47,7 +47,7 @@ module _ {C : Type 0} (image : C → List ℕ) (m : PlanMeaning) where
       either (eqb d e) (device.write_state v buffer) v
       (either (is_ok (device.write_answer v buffer)) (cond (device.is_missed v.news) v (device.in_phase v (thanked v.phase))) v
       (either' (device.is_missed v.news) v (device.in_phase v (thanked v.phase)) refl))
-  kept e v (takes_management d xs r) = either (eqb d e) (device.take-state v xs) v (by_taking v (device.taking v xs))
+  kept e v (takes_management d xs r) = either (eqb d e) (device.take_state v xs) v (by_taking v (device.taking v xs))
 
   pub address_of : (devices : Devices) (cs : List (Call C)) (e : ℕ) → ((hall image m devices cs).devices e).address ≡ devices.address e
   address_of devices [] e = refl

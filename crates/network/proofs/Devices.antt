@@ -353,7 +353,7 @@ module _ {C : Type 0} (image : C → List ℕ) (m : PlanMeaning) (rules : Rules 
       let one : h ≡ g = cc in
       subst (λ (l : Grant). c ≡ configuration_for m.numbers l) one is
 
-  pub took : (xs : List ℕ) (r : Result (Unit {0}) Fault) (count : ℕ) → r ≡ device.take-answer v xs → KeepsRules count ds (deed (takes_management e xs r)) → S v ds → S (device.take-state v xs) (deed (takes_management e xs r) ∷ ds)
+  pub took : (xs : List ℕ) (r : Result (Unit {0}) Fault) (count : ℕ) → r ≡ device.take_answer v xs → KeepsRules count ds (deed (takes_management e xs r)) → S v ds → S (device.take_state v xs) (deed (takes_management e xs r) ∷ ds)
   took xs r count q keeps s =
       took_by image m.numbers e g k.opened k.gathered k.sent k.last v ds (device.taking v xs) xs r count q keeps
       (λ among c h. own_configuration c s.address (given m v rules xs c (steady.answered xs among) h)) s
@@ -448,7 +448,7 @@ module _ {C : Type 0} (e : ℕ) (v : Device C) (ds : List (Deed C)) (o : Outside
   outside_took_by (Ok (device.configured c)) xs (Err f) count q keeps never = let z : ◌≡◌ {A = ℕ} 0 1 = cc in absurd (omega arith)
   outside_took_by (Err f) xs (Err h) count q keeps never = outside_idle
 
-  pub outside_took : (m : PlanMeaning) → Rules m → (k : Inner) → Steady m k ds → ((i : ℕ) (g : Grant) → grant_at m i ≡ Some g → g.address ≡ v.address → ⊥) → (xs : List ℕ) (r : Result (Unit {0}) Fault) (count : ℕ) → r ≡ device.take-answer v xs → KeepsRules count ds (deed (takes_management e xs r)) → Outside e (device.take-state v xs) (deed (takes_management e xs r) ∷ ds)
+  pub outside_took : (m : PlanMeaning) → Rules m → (k : Inner) → Steady m k ds → ((i : ℕ) (g : Grant) → grant_at m i ≡ Some g → g.address ≡ v.address → ⊥) → (xs : List ℕ) (r : Result (Unit {0}) Fault) (count : ℕ) → r ≡ device.take_answer v xs → KeepsRules count ds (deed (takes_management e xs r)) → Outside e (device.take_state v xs) (deed (takes_management e xs r) ∷ ds)
   outside_took m rules k steady nobody xs r count q keeps =
       outside_took_by (device.taking v xs) xs r count q keeps
       (λ among c h. let there = given m v rules xs c (steady.answered xs among) h in nobody there.0 there.1 there.2 there.3)

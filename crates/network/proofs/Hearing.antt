@@ -195,7 +195,7 @@ module _ {C : Type 0} (image : C → List ℕ) (m : PlanMeaning) (rules : Rules 
   -- the cargo laws, and what marking does to bits
   module _ (short : (x : C) → length (image x) ≤ 124) (apart : Apart image)
       (marked_own : (i : ℕ) (g : Grant) (xs : List ℕ) → grant_at m i ≡ Some g → length xs ≡ 32 → acknowledged m.numbers (marked_with m.numbers xs g) g.first ≡ true)
-      (Marked-other : (i j : ℕ) (g h : Grant) (xs : List ℕ) → grant_at m i ≡ Some g → grant_at m j ≡ Some h → (i ≡ j → ⊥) → length xs ≡ 32 → acknowledged m.numbers (marked_with m.numbers xs g) h.first ≡ acknowledged m.numbers xs h.first) where
+      (marked_other : (i j : ℕ) (g h : Grant) (xs : List ℕ) → grant_at m i ≡ Some g → grant_at m j ≡ Some h → (i ≡ j → ⊥) → length xs ≡ 32 → acknowledged m.numbers (marked_with m.numbers xs g) h.first ≡ acknowledged m.numbers xs h.first) where
     -- cargo is read out of its frame as it was
     read_out : (x y : C) (xs : List ℕ) → xs ≡ frame_with image m.numbers x → Receives image xs (Ok y) → x ≡ y
     read_out x y xs e received =
@@ -256,7 +256,7 @@ module _ {C : Type 0} (image : C → List ℕ) (m : PlanMeaning) (rules : Rules 
 
         same_bit : acknowledged m.numbers (gathering m.numbers t k.gathered g) h.first ≡ acknowledged m.numbers k.gathered h.first
         same_bit = elim (cases_lt m.numbers.retransmission t) [
-          | inl above ↦ rw (lt-leb _ _ above) (Marked-other i j g h k.gathered here there differ steady.size)
+          | inl above ↦ rw (lt-leb _ _ above) (marked_other i j g h k.gathered here there differ steady.size)
           | inr below ↦ rw (le-leb _ _ below) refl
         ]
 

@@ -24,10 +24,10 @@ use Rattle.network.specs.Runs.{Devices, Different, Present, OnAir, KeepsRules, d
 use Rattle.network.proofs.Accounts.{from_book, from_outside}
 use Rattle.network.proofs.Addresses.{address_of}
 use Rattle.network.proofs.Carrying.{Carries, begun_carries, next_carries}
-use Rattle.network.proofs.Devices as devices-keep
+use Rattle.network.proofs.Devices as DevicesKeep
 use Rattle.network.proofs.Devices.{open_now}
 use Rattle.network.proofs.Hearing.{grant_found, heard_of, heard_elsewhere}
-use Rattle.network.proofs.News as news-keep
+use Rattle.network.proofs.News as NewsKeep
 use Rattle.network.proofs.Others as others
 use Rattle.network.proofs.Placing.{Facts, placed, hand_up_facts, transmission_facts}
 use Rattle.network.proofs.Sound.{Steady, Standing}
@@ -131,28 +131,28 @@ module _ {C : Type 0} (image : C → List ℕ) (short : (x : C) → length (imag
     Own o w es = Standing image m.numbers e o k w es
 
     own_beacon : (o : Option Grant) → grant_of m a ≡ o → (xs : List ℕ) (r : Result (Option Fate) Fault) → r ≡ device.beacon_answer v xs → KeepsRules devices.count ds (deed (takes_beacon e xs r)) → Own o v ds → Own o (device.beacon_state v xs) (deed (takes_beacon e xs r) ∷ ds)
-    own_beacon None found xs r is keeps s = news-keep.outside_beaconed e v ds s xs r is
-    own_beacon (Some g) found xs r is keeps s = let w = grant_found m rules a g found in news-keep.beaconed image m rules e w.0 g w.1 k v ds steady xs r devices.count is keeps s
+    own_beacon None found xs r is keeps s = NewsKeep.outside_beaconed e v ds s xs r is
+    own_beacon (Some g) found xs r is keeps s = let w = grant_found m rules a g found in NewsKeep.beaconed image m rules e w.0 g w.1 k v ds steady xs r devices.count is keeps s
 
     own_missed : (o : Option Grant) → grant_of m a ≡ o → (r : Option Fate) → r ≡ device.missed_answer v → KeepsRules devices.count ds (deed (misses_beacon e r)) → Own o v ds → Own o (device.missed_state v) (deed (misses_beacon e r) ∷ ds)
-    own_missed None found r is keeps s = news-keep.outside_missed e v ds s r is
-    own_missed (Some g) found r is keeps s = let w = grant_found m rules a g found in news-keep.missed image m rules e w.0 g w.1 k v ds steady r devices.count is keeps s
+    own_missed None found r is keeps s = NewsKeep.outside_missed e v ds s r is
+    own_missed (Some g) found r is keeps s = let w = grant_found m rules a g found in NewsKeep.missed image m rules e w.0 g w.1 k v ds steady r devices.count is keeps s
 
     own_offered : (o : Option Grant) → grant_of m a ≡ o → (x : C) (r : Result (Unit {0}) Fault) → r ≡ device.offer_answer image v x → Own o v ds → Own o (device.offer_state image v x) (deed (is_offered e x r) ∷ ds)
-    own_offered None found x r is s = devices-keep.outside_offered e v ds s image x r is
-    own_offered (Some g) found x r is s = let w = grant_found m rules a g found in devices-keep.offered image m rules e w.0 g w.1 k v ds steady x r is s
+    own_offered None found x r is s = DevicesKeep.outside_offered e v ds s image x r is
+    own_offered (Some g) found x r is s = let w = grant_found m rules a g found in DevicesKeep.offered image m rules e w.0 g w.1 k v ds steady x r is s
 
     own_sent : (o : Option Grant) → grant_of m a ≡ o → (t : ℕ) (buffer : List ℕ) (r : Result ℕ Fault) (memory : List ℕ) → r ≡ device.send_answer image v t buffer → memory ≡ device.send_memory image v t buffer → KeepsRules devices.count ds (deed (sends e t buffer r memory)) → Own o v ds → Own o (device.send_state image v t buffer) (deed (sends e t buffer r memory) ∷ ds)
-    own_sent None found t buffer r memory is left keeps s = devices-keep.outside_sent e v ds s image t buffer r memory is
-    own_sent (Some g) found t buffer r memory is left keeps s = let w = grant_found m rules a g found in devices-keep.sent image m rules e w.0 g w.1 k v ds steady t buffer r memory devices.count is left keeps s
+    own_sent None found t buffer r memory is left keeps s = DevicesKeep.outside_sent e v ds s image t buffer r memory is
+    own_sent (Some g) found t buffer r memory is left keeps s = let w = grant_found m rules a g found in DevicesKeep.sent image m rules e w.0 g w.1 k v ds steady t buffer r memory devices.count is left keeps s
 
     own_written : (o : Option Grant) → grant_of m a ≡ o → (buffer : List ℕ) (r : Result ℕ Fault) (memory : List ℕ) → r ≡ device.write_answer v buffer → Own o v ds → Own o (device.write_state v buffer) (deed (writes_management e buffer r memory) ∷ ds)
-    own_written None found buffer r memory is s = devices-keep.outside_written e v ds s buffer r memory is
-    own_written (Some g) found buffer r memory is s = let w = grant_found m rules a g found in devices-keep.written image m rules e w.0 g w.1 k v ds steady buffer r memory is s
+    own_written None found buffer r memory is s = DevicesKeep.outside_written e v ds s buffer r memory is
+    own_written (Some g) found buffer r memory is s = let w = grant_found m rules a g found in DevicesKeep.written image m rules e w.0 g w.1 k v ds steady buffer r memory is s
 
-    own_took : (o : Option Grant) → grant_of m a ≡ o → (xs : List ℕ) (r : Result (Unit {0}) Fault) → r ≡ device.take-answer v xs → KeepsRules devices.count ds (deed (takes_management e xs r)) → Own o v ds → Own o (device.take-state v xs) (deed (takes_management e xs r) ∷ ds)
-    own_took None found xs r is keeps s = devices-keep.outside_took e v ds s m rules k steady (λ i g at q. nobody a found i g at (q ∙ address)) xs r devices.count is keeps
-    own_took (Some g) found xs r is keeps s = let w = grant_found m rules a g found in devices-keep.took image m rules e w.0 g w.1 k v ds steady xs r devices.count is keeps s
+    own_took : (o : Option Grant) → grant_of m a ≡ o → (xs : List ℕ) (r : Result (Unit {0}) Fault) → r ≡ device.take_answer v xs → KeepsRules devices.count ds (deed (takes_management e xs r)) → Own o v ds → Own o (device.take_state v xs) (deed (takes_management e xs r) ∷ ds)
+    own_took None found xs r is keeps s = DevicesKeep.outside_took e v ds s m rules k steady (λ i g at q. nobody a found i g at (q ∙ address)) xs r devices.count is keeps
+    own_took (Some g) found xs r is keeps s = let w = grant_found m rules a g found in DevicesKeep.took image m rules e w.0 g w.1 k v ds steady xs r devices.count is keeps s
 
   -- Every call.
 
@@ -240,7 +240,7 @@ module _ {C : Type 0} (image : C → List ℕ) (short : (x : C) → length (imag
         (rw (eq-eqb d d refl) (own_written k ds h.steady d (devices.address d) (v d) (address_of image m devices cs d) (grant_for d) refl buffer r memory is (h.standing d there)))
         (λ e here differ. rw differ (others.written_elsewhere image m e (grant_for e) k (v e) ds d differ buffer r memory (h.standing e here)))
 
-    took_standing : (d : ℕ) → d < devices.count → (xs : List ℕ) (r : Result (Unit {0}) Fault) → r ≡ device.take-answer (v d) xs → KeepsRules devices.count ds (deed (takes_management d xs r)) → (e : ℕ) → e < devices.count → StandingAfter (takes_management d xs r) e
+    took_standing : (d : ℕ) → d < devices.count → (xs : List ℕ) (r : Result (Unit {0}) Fault) → r ≡ device.take_answer (v d) xs → KeepsRules devices.count ds (deed (takes_management d xs r)) → (e : ℕ) → e < devices.count → StandingAfter (takes_management d xs r) e
     took_standing d there xs r is keeps =
         spread d (StandingAfter (takes_management d xs r))
         (rw (eq-eqb d d refl) (own_took k ds h.steady d (devices.address d) (v d) (address_of image m devices cs d) (grant_for d) refl xs r is keeps (h.standing d there)))

@@ -8,7 +8,7 @@ use Rattle.frame.specs.declared.frames.Configuration.{Configuration}
 use Rattle.frame.specs.Formats.{reading}
 use Rattle.frame.specs.Messages.{State, online, discovery, configuration, reset, octets_of}
 use Rattle.frame.proofs.Numbers.{low_bits}
-use Rattle.frame.proofs.Returns.{reads_back, ToldBy}
+use Rattle.frame.proofs.Returns.{reads_back, told_of}
 use Rattle.plan.specs.declared.grant.Grant.{Grant}
 use Rattle.plan.specs.declared.grant.Numbers.{Numbers}
 use Rattle.plan.specs.Rules.{PlanMeaning, Rules, NumbersKeep, grant_at, bitmap_octets}
@@ -170,7 +170,7 @@ module _ (n : Numbers) (keep : NumbersKeep n) (xs : List ℕ) where
   online_short : length (take (bitmap_octets n) xs) ≤ 32
   online_short = let e = length-take (bitmap_octets n) xs in let k = keep.timeslots in omega arith
 
-  beacon_reads : (st : State) → reading (octets_of (beacon_in st n xs)) ≡ Ok (ToldBy (beacon_in st n xs))
+  beacon_reads : (st : State) → reading (octets_of (beacon_in st n xs)) ≡ Ok (told_of (beacon_in st n xs))
   beacon_reads online = let s = online_short in reads_back (beacon_in online n xs) tt (omega arith)
   beacon_reads discovery = reads_back (beacon_in discovery n xs) keep.management.1 (omega arith)
   beacon_reads configuration = reads_back (beacon_in configuration n xs) keep.management.1 (omega arith)

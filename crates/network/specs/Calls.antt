@@ -10,7 +10,7 @@ use Rattle.coordinator.specs.declared.state.OpenSuperframe.{OpenSuperframe}
 use Rattle.coordinator.specs.Steps.{mode_answer, mode_state, open_answer, open_memory, open_state, Hears, hear_state, manage_answer, manage_memory, manage_state, close_answer, close_state}
 use Rattle.device.specs.declared.state.Device.{Device}
 use Rattle.device.specs.declared.state.Fate.{Fate}
-use Rattle.device.specs.Steps.{beacon_answer, beacon_state, missed_answer, missed_state, offer_answer, offer_state, send_answer, send_memory, send_state, write_answer, write_memory, write_state, take-answer, take-state}
+use Rattle.device.specs.Steps.{beacon_answer, beacon_state, missed_answer, missed_state, offer_answer, offer_state, send_answer, send_memory, send_state, write_answer, write_memory, write_state, take_answer, take_state}
 
 -- one call with its answer: what was handed over, what was answered and, where a buffer was lent, what it held before and after.
 -- Superframes go by their numbers, devices by their places.
@@ -59,7 +59,7 @@ module _ {C : Type 0} (image : C → List ℕ) (m : PlanMeaning) where
   device_after e v (is_offered d x r) = cond (d == e) (offer_state image v x) v
   device_after e v (sends d t buffer r memory) = cond (d == e) (send_state image v t buffer) v
   device_after e v (writes_management d buffer r memory) = cond (d == e) (write_state v buffer) v
-  device_after e v (takes_management d xs r) = cond (d == e) (take-state v xs) v
+  device_after e v (takes_management d xs r) = cond (d == e) (take_state v xs) v
 
   abbrev pub after : Hall C → Call C → Hall C
   after h c = record { coordinator = coordinator_after h.coordinator c; devices = λ e. device_after e (h.devices e) c }
@@ -76,4 +76,4 @@ module _ {C : Type 0} (image : C → List ℕ) (m : PlanMeaning) where
   Answers h (is_offered d x r) = r ≡ offer_answer image (h.devices d) x
   Answers h (sends d t buffer r memory) = (r ≡ send_answer image (h.devices d) t buffer) × (memory ≡ send_memory image (h.devices d) t buffer)
   Answers h (writes_management d buffer r memory) = (r ≡ write_answer (h.devices d) buffer) × (memory ≡ write_memory (h.devices d) buffer)
-  Answers h (takes_management d xs r) = r ≡ take-answer (h.devices d) xs
+  Answers h (takes_management d xs r) = r ≡ take_answer (h.devices d) xs

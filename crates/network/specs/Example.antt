@@ -15,7 +15,7 @@ use Rattle.device.specs.declared.state.Fate.TheVariants as fate
 use Rattle.network.specs.Calls.{Call, set_mode, opens, hears, hears_management, closes, takes_beacon, misses_beacon, is_offered, sends, writes_management, takes_management}
 use Rattle.network.specs.History.{Telling, Arrival, accepted, told}
 use Rattle.network.specs.Runs.{Devices, Different, deeds, Run}
-use Rattle.network.specs.Guarantee.{Arrived}
+use Rattle.network.specs.Guarantee.{arrivals_of_device}
 
 -- the plan: three base timeslots, the first of them for retransmission, and a grant of one timeslot for each device
 abbrev pub numbers : Numbers
@@ -181,7 +181,7 @@ fates d = map (λ (x : Telling). x.fate) (told d (deeds calls))
 
 -- what was handed up of a device, the newest first
 abbrev pub arrived : ℕ → List (Arrival Reading)
-arrived d = Arrived plan devices (deeds calls) d
+arrived d = arrivals_of_device plan devices (deeds calls) d
 
 abbrev pub own : ℕ → Reading → Arrival Reading
 own k x = record { number = k; own = true; cargo = x }

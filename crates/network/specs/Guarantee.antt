@@ -45,16 +45,16 @@ module _ {C : Type 0} (m : PlanMeaning) (devices : Devices) (ds : List (Deed C))
 
   -- what a device accepted, what of it was handed up, and what it told
   module _ (d : ℕ) where
-    abbrev pub Arrived : List (Arrival C)
-    Arrived = arrivals m.numbers.retransmission (simple_of m (devices.address d)) d ds
+    abbrev pub arrivals_of_device : List (Arrival C)
+    arrivals_of_device = arrivals m.numbers.retransmission (simple_of m (devices.address d)) d ds
 
     -- what is handed up is the acceptance with its number, unaltered
     abbrev pub EveryArrivalWasAccepted : Type 0
-    EveryArrivalWasAccepted = (x : Arrival C) → Among x Arrived → numbered (accepted d ds) x.number ≡ Some x.cargo
+    EveryArrivalWasAccepted = (x : Arrival C) → Among x arrivals_of_device → numbered (accepted d ds) x.number ≡ Some x.cargo
 
     -- in the order of acceptance, and none twice
     abbrev pub ArrivalsComeInOrder : Type 0
-    ArrivalsComeInOrder = Falling Arrived
+    ArrivalsComeInOrder = Falling arrivals_of_device
 
     abbrev pub AcceptancesAreAccountedFor : Type 0
     AcceptancesAreAccountedFor =
@@ -67,7 +67,7 @@ module _ {C : Type 0} (m : PlanMeaning) (devices : Devices) (ds : List (Deed C))
 
     -- acceptance k was handed up from its own timeslot
     abbrev pub HandedUpFromItsOwnTimeslot : ℕ → Type 0
-    HandedUpFromItsOwnTimeslot k = (x : Arrival C) × Among x Arrived × (x.number ≡ k) × (x.own ≡ true)
+    HandedUpFromItsOwnTimeslot k = (x : Arrival C) × Among x arrivals_of_device × (x.number ≡ k) × (x.own ≡ true)
 
     -- Confirmed is told of acceptance k exactly when it was handed up from its own timeslot, and the news was an Online beacon taken
     abbrev pub ConfirmedExactlyWhenHandedUp : Type 0
@@ -78,7 +78,7 @@ module _ {C : Type 0} (m : PlanMeaning) (devices : Devices) (ds : List (Deed C))
 
     abbrev pub NothingLostIsHandedUp : Type 0
     NothingLostIsHandedUp =
-        (k : ℕ) (x : Telling) → numbered (told d ds) k ≡ Some x → x.fate ≡ fate.Lost → (y : Arrival C) → Among y Arrived → y.number ≢ k
+        (k : ℕ) (x : Telling) → numbered (told d ds) k ≡ Some x → x.fate ≡ fate.Lost → (y : Arrival C) → Among y arrivals_of_device → y.number ≢ k
 
     module _ (image : C → List ℕ) where
       -- the k-th frame that a device sent in its own timeslot is the data frame of its acceptance k
