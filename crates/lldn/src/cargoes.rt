@@ -1,7 +1,7 @@
 // Commands on cargo: images written, octets and frames read.
 use cargo::{Cargo, Panel, Reading, receive};
 use frame::Fault;
-use hexadecimal::{Hex, HexLine, Line};
+use hexadecimal::Hex;
 use std::io;
 use std::io::{BufWriter, Stdout, Write};
 
@@ -40,14 +40,22 @@ pub struct Inputs {
 
 // The image of a panel.
 pub fn image_of_panel(number: u64, inputs: Inputs, out: &mut Out) -> io::Result<()> {
-    match Panel::new(first(&inputs.switches, inputs.count)) {
-        Some(panel) if inputs.count <= 64 => image(number, &panel, out),
-        _ => writeln!(out, "{number}: no such panel"),
+    match panel_of(inputs) {
+        Some(panel) => image(number, &panel, out),
+        None => writeln!(out, "{number}: no such panel"),
     }
 }
 
+// The panel with these inputs, or none where they are too many.
+pub fn panel_of(inputs: Inputs) -> Option<Panel> {
+    if inputs.count > 64 {
+        return None;
+    }
+    Panel::new(first(&inputs.switches, inputs.count))
+}
+
 // The first items of a slice, or all of them.
-fn first<T>(items: &[T], count: usize) -> &[T] {
+pub fn first<T>(items: &[T], count: usize) -> &[T] {
     if count <= items.len() {
         &items[0..count]
     } else {
@@ -68,21 +76,12 @@ pub fn read(
     number: u64,
     kind: Kind,
     source: Source,
-    line: &HexLine,
+    octets: &[u8],
     out: &mut Out,
 ) -> io::Result<()> {
-    let octets = octets_of(line);
     match kind {
         Kind::Reading => reading(number, taken::<Reading>(source, octets), out),
         Kind::Panel => panel(number, taken::<Panel>(source, octets), out),
-    }
-}
-
-// The octets of a line, none where it has none.
-pub fn octets_of(line: &HexLine) -> &[u8] {
-    match line.told() {
-        Line::Octets(octets) => octets,
-        _ => &[],
     }
 }
 
@@ -96,26 +95,38 @@ fn taken<C: Cargo>(source: Source, octets: &[u8]) -> Result<C, Fault> {
 fn reading(number: u64, answer: Result<Reading, Fault>, out: &mut Out) -> io::Result<()> {
     match answer {
         Ok(reading) => {
-            let value = reading.value();
-            let quality = reading.quality();
-            writeln!(out, "{number}: reading {value} {quality}")
+            write!(out, "{number}: ")?;
+            write_reading(&reading, out)
         }
         Err(fault) => refused(number, fault, out),
     }
 }
 
+// Writes a reading, up to the end of the line.
+pub fn write_reading(reading: &Reading, out: &mut Out) -> io::Result<()> {
+    let value = reading.value();
+    let quality = reading.quality();
+    writeln!(out, "reading {value} {quality}")
+}
+
 fn panel(number: u64, answer: Result<Panel, Fault>, out: &mut Out) -> io::Result<()> {
     match answer {
         Ok(panel) => {
-            write!(out, "{number}: panel ")?;
-            for k in 0..panel.count() {
-                let input = panel.input(k) == Some(true);
-                write!(out, "{}", input as u8)?;
-            }
-            writeln!(out, "")
+            write!(out, "{number}: ")?;
+            write_panel(&panel, out)
         }
         Err(fault) => refused(number, fault, out),
     }
+}
+
+// Writes a panel, up to the end of the line.
+pub fn write_panel(panel: &Panel, out: &mut Out) -> io::Result<()> {
+    write!(out, "panel ")?;
+    for k in 0..panel.count() {
+        let input = panel.input(k) == Some(true);
+        write!(out, "{}", input as u8)?;
+    }
+    writeln!(out, "")
 }
 
 fn refused(number: u64, fault: Fault, out: &mut Out) -> io::Result<()> {

@@ -1,20 +1,21 @@
 // The console's state, and what it answers.
-use crate::cargoes::{image_of_panel, image_of_reading, octets_of, read};
+mod networking;
+
+use crate::cargoes::{Kind, image_of_panel, image_of_reading, read};
+use crate::networks::AnyNetwork;
 use crate::plans::AnyPlan;
 use crate::repeating::{Heard, repeats, sender_at};
-use crate::words::{Request, Script};
-use frame::{Direction, Fault};
-use hexadecimal::{Hex, HexLine};
+use crate::requests::{Request, Script};
+use crate::timetables::{holder, timetable};
+use frame::Fault;
 use plan::{EvenPlan, Grant, ListedPlan, Numbers, SlotPlan};
 use std::alloc::{AllocError, Global};
 use std::io;
 use std::io::{BufWriter, Stdout, Write};
-use times::{beacon_symbols, grant_time, superframe_symbols, to_microseconds};
 
 type Out = BufWriter<Stdout>;
 
-// What the console remembers from line to line.
-#[derive(Drop)]
+// What the console remembers from line to line. It has to be finished, for its network.
 pub struct Console {
     heap: Global,
     // The numbers of a listed plan that is being written, and its grants so far.
@@ -24,6 +25,9 @@ pub struct Console {
     plan: Option<AnyPlan>,
     // The last bitmap that fitted that plan.
     heard: Option<Heard>,
+    // The kind of cargo that the network carries.
+    kind: Kind,
+    network: Option<AnyNetwork>,
 }
 
 impl Console {
@@ -34,7 +38,23 @@ impl Console {
             grants: Vec::new(heap),
             plan: None,
             heard: None,
+            kind: Kind::Reading,
+            network: None,
         }
+    }
+
+    // Ends the network, and lets the rest go.
+    pub fn finish(self) {
+        let Console {
+            heap: _,
+            draft: _,
+            grants: _,
+            plan: _,
+            heard: _,
+            kind: _,
+            network,
+        } = self;
+        networking::end(network);
     }
 
     // Runs one line of the script.
@@ -61,23 +81,28 @@ impl Console {
                 width,
                 address,
                 simple,
-            } => match EvenPlan::new(numbers, count, width, address, simple) {
-                Ok(plan) => self.accept(number, AnyPlan::Even(plan), out),
-                Err(fault) => refuse(number, fault, out),
-            },
+            } => self.make_even(
+                number,
+                EvenPlan::new(numbers, count, width, address, simple),
+                out,
+            ),
             Request::Timetable => self.tell_timetable(number, out),
             Request::Holder(t) => self.tell_holder(number, t, out),
-            Request::Repeats(octets) => self.repeat(number, &octets, out),
+            Request::Repeats(octets) => self.repeat(number, octets.as_slice(), out),
             Request::Sender(t) => self.send(number, t, out),
-            Request::ImageOfReading { value, quality } => image_of_reading(
-                number, value, quality, out,
-            ),
+            Request::ImageOfReading { value, quality } => {
+                image_of_reading(number, value, quality, out)
+            }
             Request::ImageOfPanel(inputs) => image_of_panel(number, inputs, out),
             Request::Read {
                 kind,
                 source,
                 octets,
-            } => read(number, kind, source, &octets, out),
+            } => read(number, kind, source, octets.as_slice(), out),
+            Request::Cargo(kind) => self.carry(number, kind, out),
+            Request::Coordinator => self.make_network(number, out),
+            Request::Hall(run) => self.run_hall(number, run, out),
+            Request::Network(order) => self.order(number, order, out),
         }
     }
 
@@ -106,6 +131,19 @@ impl Console {
         }
     }
 
+    // Takes an even plan, if it is one.
+    fn make_even(
+        &mut self,
+        number: u64,
+        plan: Result<EvenPlan, Fault>,
+        out: &mut Out,
+    ) -> io::Result<()> {
+        match plan {
+            Ok(plan) => self.accept(number, AnyPlan::Even(plan), out),
+            Err(fault) => refuse(number, fault, out),
+        }
+    }
+
     fn tell_timetable(&self, number: u64, out: &mut Out) -> io::Result<()> {
         match &self.plan {
             Some(plan) => timetable(number, plan, out),
@@ -121,11 +159,11 @@ impl Console {
     }
 
     // Tells who repeats where by a bitmap, and keeps it if it fits.
-    fn repeat(&mut self, number: u64, octets: &HexLine, out: &mut Out) -> io::Result<()> {
+    fn repeat(&mut self, number: u64, octets: &[u8], out: &mut Out) -> io::Result<()> {
         let Some(plan) = &self.plan else {
             return no_plan(number, out);
         };
-        match Heard::of(octets_of(octets), plan.numbers()) {
+        match Heard::of(octets, plan.numbers()) {
             Some(heard) => {
                 self.heard = Some(heard);
                 repeats(number, plan, &heard, out)
@@ -160,52 +198,4 @@ fn refuse(number: u64, fault: Fault, out: &mut Out) -> io::Result<()> {
 
 fn no_plan(number: u64, out: &mut Out) -> io::Result<()> {
     writeln!(out, "{number}: no plan")
-}
-
-fn holder(number: u64, plan: &AnyPlan, t: u8, out: &mut Out) -> io::Result<()> {
-    match plan.holder(t) {
-        Some(i) => writeln!(out, "{number}: grant {i}"),
-        None => writeln!(out, "{number}: none"),
-    }
-}
-
-// The beacon, each grant, and the whole superframe.
-fn timetable(number: u64, plan: &AnyPlan, out: &mut Out) -> io::Result<()> {
-    let beacon = beacon_symbols(plan.numbers());
-    writeln!(out, "{number}: beacon symbols 0 to {beacon}")?;
-    for before in 0..plan.count() {
-        grant_line(number, plan, before + 1, out)?;
-    }
-    let symbols = superframe_symbols(plan);
-    let microseconds = to_microseconds(symbols);
-    writeln!(
-        out,
-        "{number}: superframe symbols {symbols} microseconds {microseconds}"
-    )
-}
-
-// Grant i, if there is one.
-fn grant_line(number: u64, plan: &AnyPlan, i: usize, out: &mut Out) -> io::Result<()> {
-    let (Some(grant), Some((start, end))) = (plan.grant(i), grant_time(plan, i)) else {
-        return Ok(());
-    };
-    let numbers = plan.numbers();
-    let address = grant.address.to_be_bytes();
-    let direction = match grant.direction(numbers) {
-        Direction::Uplink => "uplink",
-        Direction::Bidirectional => "bidirectional",
-    };
-    let simple = grant.simple;
-    let first = grant.first;
-    let last = (first as u16 + grant.width as u16).saturating_sub(1);
-    let carried = grant.carries(numbers.size);
-    write!(
-        out,
-        "{number}: grant {i} address {} simple {simple} {direction} ",
-        Hex(&address)
-    )?;
-    writeln!(
-        out,
-        "timeslots {first} to {last} symbols {start} to {end} carries {carried}"
-    )
 }

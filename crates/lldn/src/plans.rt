@@ -5,13 +5,43 @@ ghost use Rattle.plan.specs.Judged.{lawful};
 ghost use Rattle.plan.specs.EvenPlans.{even_meaning};
 ghost use Rattle.plan.specs.ListedPlans.{listed_meaning};
 
+use frame::Fault;
 use plan::{EvenPlan, Grant, ListedPlan, Numbers, SlotPlan};
+use std::alloc::{AllocError, Global};
 
 // The plan that was accepted last.
 #[derive(Drop)]
 pub enum AnyPlan {
     Listed(ListedPlan),
     Even(EvenPlan),
+}
+
+impl AnyPlan {
+    // The same plan once more, for a network of its own.
+    pub fn again(&self, heap: Global) -> Result<Result<AnyPlan, Fault>, AllocError> {
+        match self {
+            AnyPlan::Even(plan) => Ok(Ok(AnyPlan::Even(*plan))),
+            AnyPlan::Listed(plan) => {
+                let grants = grants_of(plan, heap)?;
+                Ok(listed(plan.numbers(), grants))
+            }
+        }
+    }
+}
+
+fn listed(numbers: Numbers, grants: Vec<Grant>) -> Result<AnyPlan, Fault> {
+    Ok(AnyPlan::Listed(ListedPlan::new(numbers, grants)?))
+}
+
+// The grants of a plan.
+pub fn grants_of<P: SlotPlan>(plan: &P, heap: Global) -> Result<Vec<Grant>, AllocError> {
+    let mut grants = Vec::new(heap);
+    for before in 0..plan.count() {
+        if let Some(grant) = plan.grant(before + 1) {
+            grants.push(grant)?;
+        }
+    }
+    Ok(grants)
 }
 
 impl SlotPlan for AnyPlan {

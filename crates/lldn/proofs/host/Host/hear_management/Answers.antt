@@ -1,0 +1,13 @@
+-- What is held stays the open superframe.
+use Rattle.std.proofs.Common.{◌≡◌, true, sym, subst}
+use Rattle.coordinator.specs.declared.state.Inner.{Inner}
+use Rattle.lldn.specs.Hosts.{holds}
+use Rattle.lldn.specs.Plans.{plan_meaning}
+use Rattle.lldn.proofs.Hosts.{manage_keeps}
+use Rattle.lldn.proofs.host.Host.hear_management.Goals as goal
+
+pub invariant-of-self : goal.invariant-of-self
+invariant-of-self c =
+    let host = c.args.self.now in
+    let keeps = manage_keeps (plan_meaning host.coordinator.plan) host.coordinator.inner _ c.args.octets.now c.args.buffer.now host.held host.own in
+    (subst (λ (s : Inner). holds s host.held ≡ true) (sym c.hear-management.ensures.state) keeps, tt)
