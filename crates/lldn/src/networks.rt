@@ -1,8 +1,8 @@
 // A network of either kind, and the orders that it carries out.
 use crate::cargoes::{Kind, panel_of, write_panel, write_reading};
-use crate::network::Network;
 use crate::orders::{DeviceOrder, FrameWord, HostOrder, Offer, Order};
 use crate::plans::AnyPlan;
+use crate::script_network::Network;
 use crate::stops::Stop;
 use cargo::{Cargo, Panel, Reading};
 use coordinator::{Heard, Mode};
