@@ -4,7 +4,7 @@
 usage: python3 tools/respell.py [--names]     at the top of the repository; --names only lists old and new
 
 A name is respelled where specs/ or proofs/ declares it. Names that Rattle makes, functions of src/, strings, inputs and outputs stay.
-A dash stays in a lemma where it joins the names of two definitions, as in `length-inputs_in`.
+A dash stays in a lemma where it joins the names of two definitions, as in `length-with_timeslot`.
 """
 
 import os
