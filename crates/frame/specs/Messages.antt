@@ -26,12 +26,16 @@ abbrev pub management_beacon : ManagementState → BeaconHeader → ℕ → Mess
 management_beacon management.Discovery h g = discovery_beacon h g
 management_beacon management.Configuration h g = configuration_beacon h g
 
--- the states of a network that beacons announce, and the number of each
+-- the states of a network that beacons announce, those that have management timeslots, and the number of each
 pub data State : Type 0 where
   online : State
   discovery : State
   configuration : State
   reset : State
+
+abbrev pub management_state : ManagementState → State
+management_state management.Discovery = discovery
+management_state management.Configuration = configuration
 
 abbrev pub state_code : State → ℕ
 state_code online = 0

@@ -1,7 +1,6 @@
 // Refusals: what a call answers in place of a result.
 ghost use Rattle.std.specs.Prelude.{◌≡◌, Some};
-ghost use Rattle.frame.specs.Refusals.{listed, fault, layer_name, fault_parts, fault_text};
-ghost use Rattle.std.specs.Fmt.{WritesOnOk};
+ghost use Rattle.frame.specs.Refusals.{listed, fault, layer_name, fault_text};
 
 use std::error::Error;
 use std::fmt;
@@ -67,13 +66,6 @@ pub struct Fault {
 }
 
 impl Refusal {
-    // The number under which the refusal is answered.
-    pub fn number(self) -> u8
-        ensures { result ≡ (listed self).number }
-    {
-        self as u8
-    }
-
     // The layer in which the refusal arises.
     pub fn layer(self) -> Layer
         ensures { result ≡ (listed self).layer }
@@ -103,7 +95,16 @@ impl Refusal {
     }
 }
 
-// A refusal reads as its name.
+// The number under which a refusal is answered.
+impl From<Refusal> for u8 {
+    ghost from_gives = { λ refusal number. number ≡ (listed refusal).number };
+
+    fn from(refusal: Refusal) -> u8 {
+        refusal as u8
+    }
+}
+
+// A refusal reads as its name. A derived Debug would write the same, but promises no text.
 impl fmt::Display for Refusal {
     ghost output = { λ x. Some (listed x).name };
 
@@ -151,28 +152,16 @@ impl fmt::Display for Fault {
     ghost output = { λ x. Some (fault_text x) };
 
     fn fmt<W: fmt::Write>(&self, f: &mut fmt::Formatter<W>) -> fmt::Result {
+        let number = u8::from(self.refusal);
         let Fault {
             refusal,
             place,
             layer,
         } = *self;
-        show(refusal.number(), refusal, place, layer, f)
+        write!(f, "{number} {refusal} at {place} in {layer}")
     }
 }
 
 impl Error for Refusal {}
 
 impl Error for Fault {}
-
-// Writes the four parts of a fault.
-fn show<W: fmt::Write>(
-    number: u8,
-    refusal: Refusal,
-    place: usize,
-    layer: Layer,
-    f: &mut fmt::Formatter<W>,
-) -> fmt::Result
-    ensures { WritesOnOk W.write_str_gives f.old result (fault_parts number refusal place layer) f.new }
-{
-    write!(f, "{number} {refusal} at {place} in {layer}")
-}

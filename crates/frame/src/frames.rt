@@ -68,9 +68,9 @@ pub enum BeaconState<'a> {
 #[derive(Clone, Copy, Debug, PartialEq, Eq)]
 pub enum ManagementState {
     // The coordinator looks for devices.
-    Discovery = 4,
+    Discovery,
     // The coordinator hands out grants.
-    Configuration = 6,
+    Configuration,
 }
 
 // What an acknowledgment acknowledges.

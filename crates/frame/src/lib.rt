@@ -1,6 +1,7 @@
 // Frames of the low latency mode (LLDN) of IEEE 802.15.4: read from received octets, and written into a lent buffer.
 #![tactic(auto)]
 
+mod codes;
 mod faults;
 mod frames;
 mod management;

@@ -1,22 +1,15 @@
 // Writing a frame into a lent buffer.
 ghost use Rattle.std.specs.Prelude.{◌≡◌, ◌+◌, ◌^◌, ◌<◌, ◌≤◌, [], ◌∷◌, ◌++◌, length};
-ghost use Rattle.frame.specs.Messages.{online_beacon, management_beacon, reset_beacon, data_frame, acknowledgment_frame, command_frame};
+ghost use Rattle.frame.specs.Codes.{state_for, order_for};
+ghost use Rattle.frame.specs.Messages.{online_beacon, management_beacon, reset_beacon, data_frame, acknowledgment_frame, command_frame, beacon_octets, command_octets};
 ghost use Rattle.frame.specs.Octets.{little};
 ghost use Rattle.frame.specs.Widths.{width_of};
 ghost use Rattle.frame.specs.Writing.{joined, fitting, left_by, Written};
 
+use crate::codes::{Identifier, State, Subtype};
 use crate::faults::{Fault, Refusal};
 use crate::frames::{Acknowledged, BeaconHeader, Command, Configuration, ManagementState};
 use crate::management::ManagementWidth;
-
-// The control octets: frame type 4, and the subtype in bits 6 and 7.
-const BEACON: u8 = 0x04;
-
-const DATA: u8 = 0x44;
-
-const ACKNOWLEDGMENT: u8 = 0x84;
-
-const COMMAND: u8 = 0xc4;
 
 // The length of octets in parts, if the buffer has room for all of them.
 fn fit(parts: &[&[u8]], buffer: &[u8]) -> Result<usize, Fault>
@@ -55,7 +48,10 @@ pub fn write_online_beacon(
     if bitmap.len() > 32 {
         return Err(Refusal::Surplus.at(38));
     }
-    put(&[&beacon_head(header, 0), &[timeslots], bitmap], buffer)
+    put(
+        &[&beacon_head(header, State::Online, 0), &[timeslots], bitmap],
+        buffer,
+    )
 }
 
 // Writes a beacon of a state that has management timeslots.
@@ -68,7 +64,7 @@ pub fn write_management_beacon(
     ensures { Written (management_beacon state header (width_of management)) buffer.old result buffer.new }
 {
     put(
-        &[&beacon_head(header, state as u8 + 32 * u8::from(management))],
+        &[&beacon_head(header, state.into(), management.into())],
         buffer,
     )
 }
@@ -77,16 +73,17 @@ pub fn write_management_beacon(
 pub fn write_reset_beacon(header: BeaconHeader, buffer: &mut [u8]) -> Result<usize, Fault>
     ensures { Written (reset_beacon header) buffer.old result buffer.new }
 {
-    put(&[&beacon_head(header, 7)], buffer)
+    put(&[&beacon_head(header, State::Reset, 0)], buffer)
 }
 
 // The five octets that every beacon starts with.
-fn beacon_head(header: BeaconHeader, flags: u8) -> [u8; 5]
-    ensures { result ≡ 4 ∷ flags ∷ header.coordinator ∷ header.sequence ∷ header.size ∷ [] }
+fn beacon_head(header: BeaconHeader, state: State, management: u8) -> [u8; 5]
+    requires { management ≤ 7 }
+    ensures { result ≡ beacon_octets (state_for state) management header [] }
 {
     [
-        BEACON,
-        flags,
+        Subtype::Beacon.control(),
+        state as u8 + 32 * management,
         header.coordinator,
         header.sequence,
         header.size,
@@ -100,14 +97,17 @@ pub fn write_data(payload: &[u8], buffer: &mut [u8]) -> Result<usize, Fault>
     if payload.len() > 124 {
         return Err(Refusal::Surplus.at(125));
     }
-    put(&[&[DATA], payload], buffer)
+    put(&[&[Subtype::Data.control()], payload], buffer)
 }
 
 // Writes an acknowledgment.
 pub fn write_acknowledgment(acknowledged: Acknowledged, buffer: &mut [u8]) -> Result<usize, Fault>
     ensures { Written (acknowledgment_frame acknowledged) buffer.old result buffer.new }
 {
-    put(&[&[ACKNOWLEDGMENT, acknowledged.into()]], buffer)
+    put(
+        &[&[Subtype::Acknowledgment.control(), acknowledged.into()]],
+        buffer,
+    )
 }
 
 // Writes a command.
@@ -116,7 +116,12 @@ pub fn write_command(command: Command, buffer: &mut [u8]) -> Result<usize, Fault
 {
     match command {
         Command::DiscoverResponse { address, wish } => {
-            put_command(0x0d, address, &[wish.width, wish.direction.into()], buffer)
+            put_command(
+                Identifier::DiscoverResponse,
+                address,
+                &[wish.width, wish.direction.into()],
+                buffer,
+            )
         }
         Command::ConfigurationStatus {
             address,
@@ -126,24 +131,38 @@ pub fn write_command(command: Command, buffer: &mut [u8]) -> Result<usize, Fault
             width,
         } => {
             let more = [simple, wish.width, wish.direction.into(), first, width];
-            put_command(0x0e, address, &more, buffer)
+            put_command(Identifier::ConfigurationStatus, address, &more, buffer)
         }
         Command::ConfigurationRequest {
             address,
             configuration,
-        } => put_command(0x0f, address, &configuration_octets(configuration), buffer),
+        } => put_command(
+            Identifier::ConfigurationRequest,
+            address,
+            &configuration_octets(configuration),
+            buffer,
+        ),
     }
 }
 
 // Writes a command: control, identifier, the device's full address, and the other parameters.
-fn put_command(identifier: u8, address: u64, more: &[u8], buffer: &mut [u8]) -> Result<usize, Fault>
+fn put_command(
+    identifier: Identifier,
+    address: u64,
+    more: &[u8],
+    buffer: &mut [u8],
+) -> Result<usize, Fault>
     requires { length more.now ≤ 10 }
-    ensures answer { result ≡ fitting (196 ∷ identifier ∷ (little 8 address ++ more.now)) buffer.old }
-    ensures memory { buffer.new ≡ left_by result (196 ∷ identifier ∷ (little 8 address ++ more.now)) buffer.old }
+    ensures answer { result ≡ fitting (command_octets (order_for identifier) address more.now) buffer.old }
+    ensures memory { buffer.new ≡ left_by result (command_octets (order_for identifier) address more.now) buffer.old }
     ensures fits { address < 2 ^ 64 }
 {
     put(
-        &[&[COMMAND, identifier], &address.to_le_bytes(), more],
+        &[
+            &[Subtype::Command.control(), identifier.into()],
+            &address.to_le_bytes(),
+            more,
+        ],
         buffer,
     )
 }
