@@ -22,6 +22,8 @@ fn bits_of(octet: u8, low: u32, count: u32) -> u8
     (octet >> low) & ((1u8 << count) - 1)
 }
 
+// Octets and an index into them are what a slice's own range takes: a struct of both would be no plainer.
+
 // The part from one index up to another.
 fn part(octets: &[u8], from: usize, to: usize) -> Part<'_>
     requires { (from ≤ to) × (to ≤ length octets.now) }

@@ -12,6 +12,7 @@ use crate::frames::{Acknowledged, BeaconHeader, Command, Configuration, Manageme
 use crate::management::ManagementWidth;
 
 // The length of octets in parts, if the buffer has room for all of them.
+#[tactic(auto, using(crate::proofs::Parts::part_within))]
 fn fit(parts: &[&[u8]], buffer: &[u8]) -> Result<usize, Fault>
     ensures { result ≡ fitting (joined parts.now) buffer.now }
 {
@@ -23,6 +24,7 @@ fn fit(parts: &[&[u8]], buffer: &[u8]) -> Result<usize, Fault>
 }
 
 // Writes octets in parts, one after another at the buffer's start, if it has room for all of them.
+#[tactic(auto, using(crate::proofs::Parts::part_within))]
 pub fn put(parts: &[&[u8]], buffer: &mut [u8]) -> Result<usize, Fault>
     ensures answer { result ≡ fitting (joined parts.now) buffer.old }
     ensures memory { buffer.new ≡ left_by result (joined parts.now) buffer.old }
@@ -36,7 +38,10 @@ pub fn put(parts: &[&[u8]], buffer: &mut [u8]) -> Result<usize, Fault>
     Ok(length)
 }
 
-// Writes an Online beacon; a bitmap has at most 32 octets.
+// The header is what a beacon says and the buffer where it goes: a struct of both, made for each call, would be no plainer.
+
+// Writes an Online beacon; a bitmap has at most 32 octets. A longer one is refused at the frame's end: no plainer by the reader's `at_most`, whose place is the
+// length that it tests.
 pub fn write_online_beacon(
     header: BeaconHeader,
     timeslots: u8,
@@ -76,7 +81,7 @@ pub fn write_reset_beacon(header: BeaconHeader, buffer: &mut [u8]) -> Result<usi
     put(&[&beacon_head(header, State::Reset, 0)], buffer)
 }
 
-// The five octets that every beacon starts with.
+// The five octets that every beacon starts with: fixed memory, as the writers have no heap.
 fn beacon_head(header: BeaconHeader, state: State, management: u8) -> [u8; 5]
     requires { management ≤ 7 }
     ensures { result ≡ beacon_octets (state_for state) management header [] }
@@ -90,7 +95,8 @@ fn beacon_head(header: BeaconHeader, state: State, management: u8) -> [u8; 5]
     ]
 }
 
-// Writes a data frame; a payload has at most 124 octets.
+// Writes a data frame; a payload has at most 124 octets. A longer one is refused as a longer bitmap is.
+#[tactic(auto, using(crate::proofs::Returns::written))]
 pub fn write_data(payload: &[u8], buffer: &mut [u8]) -> Result<usize, Fault>
     ensures { Written (data_frame payload.now) buffer.old result buffer.new }
 {
@@ -111,6 +117,7 @@ pub fn write_acknowledgment(acknowledged: Acknowledged, buffer: &mut [u8]) -> Re
 }
 
 // Writes a command.
+#[tactic(auto, using(crate::proofs::Returns::written))]
 pub fn write_command(command: Command, buffer: &mut [u8]) -> Result<usize, Fault>
     ensures { Written (command_frame command) buffer.old result buffer.new }
 {
@@ -167,7 +174,7 @@ fn put_command(
     )
 }
 
-// A configuration as a request carries it: the third octet, for management, is written 0.
+// A configuration as a request carries it, in fixed memory: the third octet, for management, is written 0.
 fn configuration_octets(c: Configuration) -> [u8; 10]
     ensures { result ≡ c.simple ∷ c.channel ∷ 0 ∷ c.size ∷ c.first ∷ c.width ∷ c.retransmission ∷ c.uplink ∷ c.timeslots ∷ c.coordinator ∷ [] }
 {
