@@ -4,8 +4,9 @@ ghost use Rattle.hexadecimal.specs.Grammar.{octets_in};
 ghost use Rattle.hexadecimal.specs.LineOf.{line_of, seen, kept};
 ghost use Rattle.hexadecimal.specs.Reading.{Read, Stands, stored, is_empty};
 
-use super::{HexLine, KEPT, Progress};
+use super::{HexLine, Progress};
 use crate::digit::{octet_of, value_of};
+use arrayvec::ArrayVec;
 use std::error::Error;
 use std::fmt;
 
@@ -30,8 +31,7 @@ impl HexLine {
     {
         HexLine {
             progress: Progress::Untouched,
-            octets: [0; KEPT],
-            count: 0,
+            octets: ArrayVec::new(),
         }
     }
 
@@ -69,7 +69,7 @@ impl HexLine {
     {
         match self.progress {
             Progress::Untouched | Progress::LoneReturn | Progress::Comment => Ok(None),
-            Progress::Whole | Progress::WholeReturn => Ok(Some(&self.octets[..self.count])),
+            Progress::Whole | Progress::WholeReturn => Ok(Some(self.octets.as_slice())),
             Progress::Half(_) | Progress::Broken => Err(NotOctets),
         }
     }
@@ -79,9 +79,8 @@ impl HexLine {
         ensures stores { stored self.new ≡ take 126 (stored self.old ++ octet ∷ []) }
         ensures same { self.new.progress ≡ self.old.progress }
     {
-        if self.count < KEPT {
-            self.octets[self.count] = octet;
-            self.count += 1;
+        if !self.octets.is_full() {
+            self.octets.push(octet);
         }
     }
 }

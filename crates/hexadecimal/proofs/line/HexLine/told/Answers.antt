@@ -16,7 +16,7 @@ returns-in-Untouched c t h =
 pub returns-in-Whole : goal.returns-in-Whole
 returns-in-Whole c t h =
     let line = c.args.self.now in
-    ap these_octets h.keeps ∙
+    ap these_octets (c.as_slice.ensures.value ∙ h.keeps) ∙
     elim c.in-Whole.is [ inl e ↦ told_there line t h Whole e | inr e ↦ told_there line t h WholeReturn e ]
 
 pub returns-in-Half : goal.returns-in-Half
