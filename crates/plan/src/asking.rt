@@ -5,6 +5,7 @@ ghost use Rattle.plan.specs.Answers.{passing, holder_of, number_with, with_grant
 ghost use Rattle.plan.specs.Laws.{AtMostOneHolder, AddressesDiffer, NamesHolder, NamesAddressed, Alike};
 
 use super::grant::Grant;
+use super::grants::Grants;
 use super::slots::SlotPlan;
 
 // The number of the grant with a full address, or none. No two grants share a full or a simple address.
@@ -13,7 +14,9 @@ pub fn grant_with_address<P: SlotPlan>(plan: &P, address: u64) -> Option<usize>
     ensures names { NamesAddressed (P.SlotPlan.meaning plan.now) address result }
     ensures differ { AddressesDiffer (P.SlotPlan.meaning plan.now) }
 {
-    (1..=plan.count()).find(|&i| plan.grant(i).is_some_and(|g| g.address == address))
+    Grants::of(plan)
+        .find(|(_, grant)| grant.address == address)
+        .map(|(i, _)| i)
 }
 
 // The number of the grant that holds base timeslot t, and the grant, or none. At most one grant holds a timeslot.
