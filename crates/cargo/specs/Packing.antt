@@ -78,33 +78,6 @@ fits_octets count n h =
     let room : 2 ^ count ≤ 2 ^ (8 * octets_for count) = pow-le-pow_right (omega arith) enough in
     rw (pow_octets (octets_for count)) (omega arith)
 
--- one more octet below those of a number
-pub little_more : (w n o : ℕ) → o < 256 → little (suc w) (256 * n + o) ≡ o ∷ little w n
-little_more w n o h =
-    let low : (256 * n + o) % 256 ≡ o = omega arith in
-    let high : (256 * n + o) / 256 ≡ n = omega arith in
-    rw (low, high)
-
--- a loop's step over octets, from the last one down: what it gives, and that it fits
-pub little_step : (xs : List ℕ) (j n : ℕ) → 0 < j → j ≤ length xs → octet xs (j - 1) < 256 → little (length xs - j) n ≡ drop j xs → little (length xs - (j - 1)) (256 * n + octet xs (j - 1)) ≡ drop (j - 1) xs
-little_step xs j n some within small e =
-    let i = j - 1 in
-    let here : i < length xs = omega arith in
-    let left : length xs - i ≡ suc (length xs - j) = omega arith in
-    let next : suc i ≡ j = omega arith in
-    rw left (little_more (length xs - j) n (octet xs i) small ∙ ap (λ (l : List ℕ). octet xs i ∷ l) (e ∙ ap (λ (m : ℕ). drop m xs) (sym next)) ∙ sym (drop-cons xs i 0 here))
-
-pub below_step : (l j n o : ℕ) → 0 < j → j ≤ l → o < 256 → n < 256 ^ (l - j) → 256 * n + o < 256 ^ (l - (j - 1))
-below_step l j n o some within small h =
-    let left : l - (j - 1) ≡ suc (l - j) = omega arith in
-    rw (left, pow-suc 256 (l - j)) (omega arith)
-
-pub below_seven : (l j n : ℕ) → 0 < j → l ≤ 8 → n < 256 ^ (l - j) → n < 2 ^ 56
-below_seven l j n some most h =
-    let few : l - j ≤ 7 = omega arith in
-    let room : 256 ^ (l - j) ≤ 256 ^ 7 = pow-le-pow_right (omega arith) few in
-    omega arith
-
 -- an image has at most nine octets
 pub image_length : (inputs : List Bool) → length (panel_image inputs) ≡ 1 + octets_for (length inputs)
 image_length inputs = (laid_out inputs).size

@@ -26,7 +26,7 @@ impl Panel {
     pub fn new(inputs: &[bool]) -> Option<Panel>
         ensures { option_map inputs_of result ≡ (if leb 1 (length inputs.now) && nat_le (length inputs.now) 64 then Some inputs.now else None) }
     {
-        if inputs.is_empty() || inputs.len() > 64 {
+        if !(1..=64).contains(&inputs.len()) {
             return None;
         }
         Some(Panel {
@@ -46,20 +46,14 @@ impl Panel {
     pub fn input(self, k: u8) -> Option<bool>
         ensures { result ≡ (if nat_lt k (length (inputs_of self)) then Some (slice_index_or (inputs_of self) k false) else None) }
     {
-        if k >= self.count {
-            return None;
-        }
-        Some(self.is_on(k))
+        (k < self.count).then(|| self.is_on(k))
     }
 
     // The panel with one input changed, or none where there is no such input.
     pub fn switched(self, k: u8, on: bool) -> Option<Panel>
         ensures { option_map inputs_of result ≡ (if nat_lt k (length (inputs_of self)) then Some (slice_set (inputs_of self) k on) else None) }
     {
-        if k >= self.count {
-            return None;
-        }
-        Some(self.with_input(k, on))
+        (k < self.count).then(|| self.with_input(k, on))
     }
 
     // Whether an input is on.
