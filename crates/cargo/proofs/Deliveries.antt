@@ -13,10 +13,9 @@ module _ {C : Type 0} (image : C → List ℕ) (apart : Apart image) where
   read_is xs (Ok w) h v e = ap Ok (apart w v (h ∙ sym e))
   read_is xs (Err f) h v e = absurd (h.1 v e)
 
-  pub start_is : (count : ℕ) (xs : List ℕ) (r : Result C Fault) → Reads image (take (count - 0) xs) r → ReadsStart image count xs r
+  pub start_is : (count : ℕ) (xs : List ℕ) (r : Result C Fault) → Reads image (take count xs) r → ReadsStart image count xs r
   start_is count xs r h v rest e f =
-      let n : length (image v) ≡ count - 0 = omega arith in
-      read_is (take (count - 0) xs) r h v (sym (ap (take (count - 0)) e ∙ take_at (image v) rest (count - 0) n))
+      read_is (take count xs) r h v (sym (ap (take count) e ∙ take_at (image v) rest count (sym f)))
 
   pub delivered : ((v : C) → length (image v) ≤ 124) → (xs : List ℕ) (r : Result C Fault) → Receives image xs r → Delivered image xs r
   delivered short xs r h v e =

@@ -81,11 +81,3 @@ fits_octets count n h =
 -- an image has at most nine octets
 pub image_length : (inputs : List Bool) → length (panel_image inputs) ≡ 1 + octets_for (length inputs)
 image_length inputs = (laid_out inputs).size
-
--- the image is the start of the count and eight octets
-pub image_start : (count n m : ℕ) → count ≤ 64 → n < 2 ^ count → m ≡ length (panel_image (inputs_in count n)) → take m (count ∷ little 8 n) ≡ panel_image (inputs_in count n)
-image_start count n m few h e =
-    let w = octets_for count in
-    let l : length (panel_image (inputs_in count n)) ≡ suc w = image_length (inputs_in count n) ∙ ap (λ (k : ℕ). 1 + octets_for k) (length_inputs_in count n) ∙ one-add w in
-    let k : m ≡ suc w = e ∙ l in
-    rw k (ap (λ (l : List ℕ). count ∷ l) (take-little w 8 n (omega arith)) ∙ sym (image_little count n h))

@@ -8,8 +8,7 @@ ghost use Rattle.cargo.specs.PanelsLemmas.{image_short, same_panel};
 
 use super::Panel;
 use crate::kinds::Cargo;
-use crate::writing::put;
-use frame::{Fault, Refusal};
+use frame::{Fault, Refusal, put};
 
 // How many octets that many inputs fill.
 fn octets_for(count: u8) -> usize
@@ -53,25 +52,6 @@ fn panel_in(image: &[u8]) -> Option<Panel>
     Some(Panel { count, inputs })
 }
 
-impl Panel {
-    // How many octets the inputs fill.
-    fn filled(self) -> usize
-        ensures size { 1 + result ≡ length (image_of self) }
-        ensures most { result ≤ 8 }
-    {
-        octets_for(self.count)
-    }
-
-    // The octets of the image, and zeros behind them.
-    fn octets(self) -> [u8; 9]
-        ensures start { (n : ℕ) → n ≡ length (image_of self) → take n result ≡ image_of self }
-        ensures laid_out { LaidOut (inputs_of self) (image_of self) }
-    {
-        let [a, b, c, d, e, f, g, h] = self.inputs.to_le_bytes();
-        [self.count, a, b, c, d, e, f, g, h]
-    }
-}
-
 impl Cargo for Panel {
     ghost image = { image_of };
 
@@ -80,7 +60,7 @@ impl Cargo for Panel {
     ghost apart = { same_panel };
 
     fn length(&self) -> usize {
-        1 + self.filled()
+        1 + octets_for(self.count)
     }
 
     // `laid_out` says where each input stands in the image.
@@ -89,7 +69,8 @@ impl Cargo for Panel {
         ensures memory { buffer.new ≡ left_by result (image_of self.now) buffer.old }
         ensures laid_out { LaidOut (inputs_of self.now) (image_of self.now) }
     {
-        put(&self.octets()[0..self.length()], buffer)
+        let inputs = self.inputs.to_le_bytes();
+        put(&[&[self.count], &inputs[..octets_for(self.count)]], buffer)
     }
 
     fn read(octets: &[u8]) -> Result<Panel, Fault> {

@@ -26,6 +26,7 @@ impl Panel {
     pub fn new(inputs: &[bool]) -> Option<Panel>
         ensures { option_map inputs_of result ≡ (if leb 1 (length inputs.now) && nat_le (length inputs.now) 64 then Some inputs.now else None) }
     {
+        // Not `then`: a closure that makes a panel needs a contract of its own.
         if !(1..=64).contains(&inputs.len()) {
             return None;
         }

@@ -5,8 +5,7 @@ ghost use Rattle.cargo.specs.Complements.{reading_short, same_reading};
 
 use super::Reading;
 use crate::kinds::Cargo;
-use crate::writing::put;
-use frame::{Fault, Refusal};
+use frame::{Fault, Refusal, put};
 
 // How many octets the image of a reading has.
 const SIZE: usize = 5;
@@ -33,8 +32,7 @@ impl Cargo for Reading {
     }
 
     fn write(&self, buffer: &mut [u8]) -> Result<usize, Fault> {
-        let [a, b, c, d] = self.value.to_le_bytes();
-        put(&[a, b, c, d, self.quality], buffer)
+        put(&[&self.value.to_le_bytes(), &[self.quality]], buffer)
     }
 
     fn read(octets: &[u8]) -> Result<Reading, Fault> {
