@@ -5,8 +5,8 @@ use Rattle.std.specs.Bool.{beq}
 use Rattle.std.proofs.Math.Nat.{pow-succ', div-div-eq-div-mul, div-eq_of_lt}
 use Rattle.std.specs.Int.Bits.{xor_zero_r}
 use Rattle.std.proofs.lemmas.Nat.{div_below, le-div, pow_pos, or_comm, or_shifted, xor_shr, xor_mod}
-use Rattle.std.proofs.lemmas.List.{take_more, length-take-le, set-get_or}
-use Rattle.std.proofs.lemmas.Bool.{true≢false, false≢true, cases_lt, eq-eqb, ne_eqb, lt-ltb, le-ltb}
+use Rattle.std.proofs.lemmas.List.{take_more, length-take-le}
+use Rattle.std.proofs.lemmas.Bool.{true≢false, cases_lt, eq-eqb, ne_eqb, lt-ltb, le-ltb}
 use Rattle.std.proofs.lemmas.Bool.Decides.{nat_tests}
 use Rattle.cargo.specs.Inputs.{bit, number, inputs_in}
 
@@ -99,21 +99,11 @@ input_bit k zero n h = absurd (omega arith)
 input_bit zero (suc count) n h = rw div-one
 input_bit (suc k) (suc count) n h = rw (pow-succ' 2 k, ← div-div-eq-div-mul n 2 (2 ^ k)) (input_bit k count (n / 2) (omega arith))
 
-alike : (a b : Bool) → beq a b ≡ true → a ≡ b
-alike true true e = refl
-alike true false e = absurd (false≢true e)
-alike false true e = absurd (false≢true e)
-alike false false e = refl
-
 unlike : (a b : Bool) → beq a b ≡ false → not a ≡ b
 unlike true true e = absurd (true≢false e)
 unlike true false e = refl
 unlike false true e = refl
 unlike false false e = absurd (true≢false e)
-
--- input k is `on` already
-pub same_input : (inputs : List Bool) (k : ℕ) (was on : Bool) → was ≡ slice_index_or inputs k false → beq was on ≡ true → inputs ≡ slice_set inputs k on
-same_input inputs k was on e f = sym (set-get_or inputs k false) ∙ ap (set inputs k) (sym e ∙ alike was on f)
 
 -- input k is not `on` yet: its bit is changed
 pub other_input : (k count n : ℕ) (was on : Bool) → k < count → was ≡ slice_index_or (inputs_in count n) k false → beq was on ≡ false → inputs_in count (bit_xor n (2 ^ k)) ≡ slice_set (inputs_in count n) k on
