@@ -12,13 +12,10 @@ fn number_of(inputs: &[bool]) -> u64
     ensures below { result < 2 ^ length inputs.now }
     ensures inputs { inputs_in (length inputs.now) result ≡ inputs.now }
 {
-    let mut number = 0;
-    for (k, on) in inputs.iter().enumerate() {
-        if *on {
-            number |= 1u64 << k;
-        }
-    }
-    number
+    inputs
+        .iter()
+        .rev()
+        .fold(0, |number, on| number << 1 | u64::from(*on))
 }
 
 impl Panel {
