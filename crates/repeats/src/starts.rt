@@ -1,11 +1,11 @@
 // Who repeats where.
 ghost use Rattle.std.specs.Prelude.{◌≡◌};
 ghost use Rattle.repeats.specs.Laws.{BitsAlike, NamesRepeater, NamesSender, RepeatsApart, RepeatsWithin, ServedInOrder};
-ghost use Rattle.repeats.specs.Starts.{zeros, may_repeat, wants_repeat, has_room, repeat_start, starts_at, for_retransmission, repeater_at, beginner_at, sender_at};
+ghost use Rattle.repeats.specs.Starts.{zeros, may_repeat, wants_repeat, has_room, repeat_start, starts_at, repeater_at, beginner_at, sender_at};
 
 use super::bitmap::GroupAcknowledgment;
 use frame::Direction;
-use plan::{Grant, Numbers, SlotPlan};
+use plan::{Grant, Numbers, SlotPlan, grant_holding};
 
 // Whether a grant may repeat at all.
 fn may_repeat(numbers: Numbers, grant: Grant) -> bool
@@ -82,16 +82,8 @@ pub fn repeater<P: SlotPlan>(plan: &P, octets: &[u8], t: u8) -> Option<usize>
 fn beginner<P: SlotPlan>(plan: &P, t: u8) -> Option<usize>
     ensures { result ≡ beginner_at (P.SlotPlan.meaning plan.now) t }
 {
-    let i = plan.holder(t)?;
-    let grant = plan.grant(i)?;
-    if grant.first == t { Some(i) } else { None }
-}
-
-// Whether timeslot t is one of those for retransmission.
-fn is_for_retransmission(numbers: Numbers, t: u8) -> bool
-    ensures { result ≡ for_retransmission numbers t }
-{
-    t <= numbers.retransmission
+    let (i, grant) = grant_holding(plan, t)?;
+    (grant.first == t).then_some(i)
 }
 
 // The number of the grant whose frame starts at timeslot t, or none: the frame is a repeat in the timeslots up to R.
@@ -99,7 +91,7 @@ pub fn sender<P: SlotPlan>(plan: &P, octets: &[u8], t: u8) -> Option<usize>
     ensures answer { result ≡ sender_at (P.SlotPlan.meaning plan.now) octets.now t }
     ensures names { BitsAlike (P.SlotPlan.meaning plan.now) octets.now → NamesSender (P.SlotPlan.meaning plan.now) octets.now t result }
 {
-    if is_for_retransmission(plan.numbers(), t) {
+    if t <= plan.numbers().retransmission {
         repeater(plan, octets, t)
     } else {
         beginner(plan, t)
