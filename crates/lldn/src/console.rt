@@ -8,7 +8,7 @@ use crate::repeating::{Heard, repeats, sender_at};
 use crate::requests::{Request, Script};
 use crate::timetables::{holder, timetable};
 use frame::Fault;
-use plan::{EvenPlan, Grant, ListedPlan, Numbers, SlotPlan};
+use plan::{EvenGrants, EvenPlan, Grant, ListedPlan, Numbers, SlotPlan};
 use std::alloc::{AllocError, Global};
 use std::io;
 use std::io::{BufWriter, Stdout, Write};
@@ -83,7 +83,15 @@ impl Console {
                 simple,
             } => self.make_even(
                 number,
-                EvenPlan::new(numbers, count, width, address, simple),
+                EvenPlan::new(
+                    numbers,
+                    EvenGrants {
+                        count,
+                        width,
+                        address,
+                        simple,
+                    },
+                ),
                 out,
             ),
             Request::Timetable => self.tell_timetable(number, out),

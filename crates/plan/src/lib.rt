@@ -4,6 +4,7 @@
 mod asking;
 mod even;
 mod grant;
+mod grants;
 mod listed;
 mod slots;
 #[cfg(test)]
@@ -11,6 +12,8 @@ mod tests;
 
 pub use asking::{answer_alike, grant_holding, grant_with_address};
 pub use even::EvenPlan;
+pub use even::grants::EvenGrants;
 pub use grant::{Grant, Numbers};
+pub use grants::Grants;
 pub use listed::ListedPlan;
 pub use slots::SlotPlan;
