@@ -2,7 +2,7 @@
 use crate::plans::AnyPlan;
 use frame::Direction;
 use plan::{Grant, Numbers, SlotPlan};
-use repeats::{fits, is_set, repeat_start, sender};
+use repeats::{GroupAcknowledgment, sender};
 use std::io;
 use std::io::{BufWriter, Stdout, Write};
 
@@ -18,7 +18,7 @@ pub struct Heard {
 impl Heard {
     // The bitmap in these octets, or none where they do not fit the plan.
     pub fn of(octets: &[u8], numbers: Numbers) -> Option<Heard> {
-        if octets.len() > 32 || !fits(octets, numbers) {
+        if octets.len() > 32 || !(GroupAcknowledgment { numbers, octets }.fits()) {
             return None;
         }
         let mut heard = [0; 32];
@@ -54,12 +54,15 @@ pub fn repeats(number: u64, plan: &AnyPlan, heard: &Heard, out: &mut Out) -> io:
 
 // What becomes of one grant.
 fn outcome(numbers: Numbers, grant: Grant, heard: &Heard, out: &mut Out) -> io::Result<()> {
-    let octets = heard.carried();
-    if is_set(octets, numbers, grant.first) {
+    let acknowledgment = GroupAcknowledgment {
+        numbers,
+        octets: heard.carried(),
+    };
+    if acknowledgment.is_set(grant.first) {
         return writeln!(out, "acknowledged");
     }
     match (
-        repeat_start(octets, numbers, grant),
+        acknowledgment.repeat_start(grant),
         grant.direction(numbers),
     ) {
         (Some(first), _) => {
