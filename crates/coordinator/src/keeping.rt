@@ -11,11 +11,6 @@ impl Inner {
     pub(crate) fn new() -> Inner
         ensures { result ≡ made }
     {
-        let unheard = Record {
-            seen: false,
-            requested: false,
-            configured: false,
-        };
         Inner {
             mode: Mode::Discovery,
             opened: false,
@@ -23,7 +18,7 @@ impl Inner {
             last: 0,
             gathered: no_bits(),
             sent: no_bits(),
-            records: [unheard; 128],
+            records: [Record::default(); 128],
             handed: None,
         }
     }

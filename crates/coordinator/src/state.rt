@@ -11,7 +11,7 @@ pub enum Mode {
 }
 
 // How far a grant's device has come.
-#[derive(Clone, Copy, Debug, PartialEq, Eq, Drop)]
+#[derive(Clone, Copy, Debug, PartialEq, Eq, Drop, Default)]
 pub struct Record {
     // A Discover Response of it was heard.
     pub seen: bool,
