@@ -6,9 +6,10 @@ ghost use Rattle.plan.specs.Rules.{NumbersKeep};
 ghost use Rattle.coordinator.specs.Beacons.{header_of};
 ghost use Rattle.coordinator.specs.Steps.{beacon_of, open_answer, open_state, open_memory};
 
-use super::state::{Inner, Mode, OpenSuperframe, Opened};
+use super::coordinator::Coordinator;
+use super::state::{Mode, OpenSuperframe, Opened};
 use frame::{BeaconHeader, Fault, ManagementWidth, Refusal};
-use plan::Numbers;
+use plan::{Numbers, SlotPlan};
 
 // What every beacon of a plan carries.
 fn header(numbers: Numbers) -> BeaconHeader
@@ -21,57 +22,42 @@ fn header(numbers: Numbers) -> BeaconHeader
     }
 }
 
-// The width of a management timeslot.
-fn management(numbers: Numbers) -> ManagementWidth
-    requires { numbers.management ≤ 7 }
-    ensures { width_of result ≡ numbers.management }
-{
-    match ManagementWidth::new(numbers.management) {
-        Some(width) => width,
-        None => unreachable(),
-    }
-}
-
-impl Inner {
+impl<P: SlotPlan> Coordinator<P> {
     // Writes the beacon of the next superframe.
-    fn write_beacon(&self, numbers: Numbers, buffer: &mut [u8]) -> Result<usize, Fault>
-        requires { NumbersKeep numbers }
-        ensures answer { result ≡ fitting (beacon_of numbers self.now) buffer.old }
-        ensures memory { buffer.new ≡ left_by result (beacon_of numbers self.now) buffer.old }
+    fn write_beacon(&self, buffer: &mut [u8]) -> Result<usize, Fault>
+        ensures answer { result ≡ fitting (beacon_of (P.SlotPlan.meaning self.now.plan).numbers self.now.inner) buffer.old }
+        ensures memory { buffer.new ≡ left_by result (beacon_of (P.SlotPlan.meaning self.now.plan).numbers self.now.inner) buffer.old }
     {
+        let numbers = self.plan.numbers();
         let header = header(numbers);
-        match self.mode {
-            Mode::Discovery => {
-                frame::write_discovery_beacon(header, management(numbers), buffer)
-            }
-            Mode::Configuration => {
-                frame::write_configuration_beacon(header, management(numbers), buffer)
-            }
+        let management = ManagementWidth::new(numbers.management).unwrap();
+        match self.inner.mode {
+            Mode::Discovery => frame::write_discovery_beacon(header, management, buffer),
+            Mode::Configuration => frame::write_configuration_beacon(header, management, buffer),
             Mode::Online => {
-                let bitmap = &self.sent[..numbers.bitmap_octets()];
+                let bitmap = &self.inner.sent[..numbers.bitmap_octets()];
                 frame::write_online_beacon(header, numbers.timeslots, bitmap, buffer)
             }
             Mode::Reset => frame::write_reset_beacon(header, buffer),
         }
     }
 
-    // Opens the next superframe, if none is open and the buffer has room for its beacon.
-    pub(crate) fn open(&mut self, numbers: Numbers, buffer: &mut [u8]) -> Result<Opened, Fault>
-        requires { NumbersKeep numbers }
-        ensures answer { result ≡ open_answer numbers self.old buffer.old }
-        ensures state { self.new ≡ open_state numbers self.old buffer.old }
-        ensures memory { buffer.new ≡ open_memory numbers self.old buffer.old }
+    // Opens the next superframe and writes its beacon into the buffer, while none is open.
+    pub fn open(&mut self, buffer: &mut [u8]) -> Result<Opened, Fault>
+        ensures answer { result ≡ open_answer (P.SlotPlan.meaning self.old.plan).numbers self.old.inner buffer.old }
+        ensures state { self.new.inner ≡ open_state (P.SlotPlan.meaning self.old.plan).numbers self.old.inner buffer.old }
+        ensures memory { buffer.new ≡ open_memory (P.SlotPlan.meaning self.old.plan).numbers self.old.inner buffer.old }
+        ensures plan { self.new.plan ≡ self.old.plan }
     {
-        if self.opened {
+        if self.inner.opened {
             return Err(Refusal::Superframe.at(0));
         }
-        let length = self.write_beacon(numbers, buffer)?;
-        self.opened = true;
+        let length = self.write_beacon(buffer)?;
+        self.inner.opened = true;
+        let number = self.inner.number;
         Ok(Opened {
             length,
-            superframe: OpenSuperframe {
-                number: self.number,
-            },
+            superframe: OpenSuperframe { number },
         })
     }
 }

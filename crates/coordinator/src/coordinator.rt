@@ -1,8 +1,8 @@
 // A coordinator.
 ghost use Rattle.std.specs.Prelude.{◌≡◌};
-ghost use Rattle.coordinator.specs.Steps.{made, mode_answer, mode_state, open_answer, open_state, open_memory, close_answer, close_state, record_answer};
+ghost use Rattle.coordinator.specs.Steps.{made, mode_answer, mode_state, close_answer, close_state, record_answer};
 
-use super::state::{Inner, Mode, OpenSuperframe, Opened, Record};
+use super::state::{Inner, Mode, OpenSuperframe, Record};
 use frame::Fault;
 use plan::SlotPlan;
 
@@ -50,16 +50,6 @@ impl<P: SlotPlan> Coordinator<P> {
         self.inner.set_mode(mode)
     }
 
-    // Opens the next superframe and writes its beacon into the buffer, while none is open.
-    pub fn open(&mut self, buffer: &mut [u8]) -> Result<Opened, Fault>
-        ensures answer { result ≡ open_answer (P.SlotPlan.meaning self.old.plan).numbers self.old.inner buffer.old }
-        ensures state { self.new.inner ≡ open_state (P.SlotPlan.meaning self.old.plan).numbers self.old.inner buffer.old }
-        ensures memory { buffer.new ≡ open_memory (P.SlotPlan.meaning self.old.plan).numbers self.old.inner buffer.old }
-        ensures plan { self.new.plan ≡ self.old.plan }
-    {
-        self.inner.open(self.plan.numbers(), buffer)
-    }
-
     // Closes the open superframe; what was heard in it is told by the next beacon. Any other superframe is handed back.
     pub fn close(&mut self, superframe: OpenSuperframe) -> Result<(), (Fault, OpenSuperframe)>
         ensures answer { result ≡ close_answer self.old.inner superframe.number }
@@ -73,9 +63,7 @@ impl<P: SlotPlan> Coordinator<P> {
     pub fn record(&self, i: usize) -> Option<Record>
         ensures { result ≡ record_answer (P.SlotPlan.meaning self.now.plan) self.now.inner i }
     {
-        if i == 0 || i > self.plan.count() {
-            return None;
-        }
-        Some(self.inner.records[i - 1])
+        let place = i.checked_sub(1)?;
+        self.inner.records[..self.plan.count()].get(place).copied()
     }
 }
