@@ -1,7 +1,6 @@
 // Hearing a data frame in a timeslot.
 ghost use Rattle.std.specs.Prelude.{◌≡◌, Some, Ok};
 ghost use Rattle.coordinator.specs.Beacons.{state_of};
-ghost use Rattle.coordinator.specs.Stages.{admitting};
 ghost use Rattle.coordinator.specs.Steps.{is_online, sending, listening, gathering, accepted, HearsFrom, Hears, hear_state};
 
 use super::coordinator::Coordinator;
@@ -10,18 +9,6 @@ use cargo::Cargo;
 use frame::{Fault, Refusal};
 use plan::{Grant, Numbers, SlotPlan};
 use repeats::{Bitmap, marked};
-
-impl Mode {
-    // Whether data frames are heard.
-    fn is_online(self) -> bool
-        ensures { result ≡ is_online (state_of self) }
-    {
-        match self {
-            Mode::Online => true,
-            _ => false,
-        }
-    }
-}
 
 // A bitmap after a grant's frame was heard in timeslot t. A repeat sets no bit.
 fn gathered(bitmap: Bitmap, numbers: Numbers, grant: Grant, t: u8) -> Bitmap
@@ -35,32 +22,12 @@ fn gathered(bitmap: Bitmap, numbers: Numbers, grant: Grant, t: u8) -> Bitmap
 }
 
 impl Inner {
-    // Refuses a superframe that is not open, or not Online, a timeslot that is none, and one that is not above the last one accepted.
-    fn admit(&self, numbers: Numbers, number: u32, t: u8) -> Result<(), Fault>
-        ensures { result ≡ admitting numbers self.now number t }
-    {
-        if !self.is_open(number) {
-            return Err(Refusal::Superframe.at(0));
-        }
-        if !self.mode.is_online() {
-            return Err(Refusal::Mode.at(0));
-        }
-        if t == 0 || t > numbers.timeslots {
-            return Err(Refusal::Timeslot.at(t as usize));
-        }
-        if t <= self.last {
-            return Err(Refusal::Late.at(t as usize));
-        }
-        Ok(())
-    }
-
     // Takes down that a grant's frame was heard in timeslot t.
     fn accept(&mut self, numbers: Numbers, grant: Grant, t: u8)
         ensures { self.new ≡ accepted numbers self.old t (Some grant) }
     {
-        let gathered = gathered(self.gathered, numbers, grant, t);
+        self.gathered = gathered(self.gathered, numbers, grant, t);
         self.last = t;
-        self.gathered = gathered;
     }
 }
 
@@ -95,11 +62,20 @@ impl<P: SlotPlan> Coordinator<P> {
     fn listening(&self, superframe: &OpenSuperframe, t: u8) -> Result<Grant, Fault>
         ensures { result ≡ listening (P.SlotPlan.meaning self.now.plan) self.now.inner superframe.now.number t }
     {
-        self.inner.admit(self.plan.numbers(), superframe.number, t)?;
-        match self.sending(t) {
-            Some(grant) => Ok(grant),
-            None => Err(Refusal::Nobody.at(t as usize)),
+        let place = usize::from(t);
+        if !self.inner.is_open(superframe.number) {
+            return Err(Refusal::Superframe.at(0));
         }
+        if self.inner.mode != Mode::Online {
+            return Err(Refusal::Mode.at(0));
+        }
+        if t == 0 || t > self.plan.numbers().timeslots {
+            return Err(Refusal::Timeslot.at(place));
+        }
+        if t <= self.inner.last {
+            return Err(Refusal::Late.at(place));
+        }
+        self.sending(t).ok_or(Refusal::Nobody.at(place))
     }
 
     // Hears a data frame that starts at a timeslot of the open superframe: the cargo, under the simple address of the sender.
