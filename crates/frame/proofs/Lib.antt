@@ -1,4 +1,3 @@
-pub mod Buffers
 pub mod Numbers
 pub mod Returns
 pub mod Exact

@@ -3,6 +3,7 @@ ghost use Rattle.std.specs.Prelude.{◌≡◌, Some};
 ghost use Rattle.frame.specs.Refusals.{listed, fault, layer_name, fault_parts, fault_text};
 ghost use Rattle.std.specs.Fmt.{WritesOnOk};
 
+use std::error::Error;
 use std::fmt;
 
 // Each refusal by its name.
@@ -100,12 +101,14 @@ impl Refusal {
             layer: self.layer(),
         }
     }
+}
 
-    // The refusal's name.
-    pub fn name(self) -> &'static str
-        ensures { result.now ≡ (listed self).name }
-    {
-        match self {
+// A refusal reads as its name.
+impl fmt::Display for Refusal {
+    ghost output = { λ x. Some (listed x).name };
+
+    fn fmt<W: fmt::Write>(&self, f: &mut fmt::Formatter<W>) -> fmt::Result {
+        f.write_str(match self {
             Refusal::Plan => "Plan",
             Refusal::Superframe => "Superframe",
             Refusal::Mode => "Mode",
@@ -125,37 +128,21 @@ impl Refusal {
             Refusal::Waiting => "Waiting",
             Refusal::Size => "Size",
             Refusal::Space => "Space",
-        }
+        })
     }
 }
 
-impl Layer {
-    // The layer's name.
-    pub fn name(self) -> &'static str
-        ensures { result.now ≡ layer_name self }
-    {
-        match self {
-            Layer::Plan => "plan",
-            Layer::Frame => "frame",
-            Layer::Cargo => "cargo",
-            Layer::End => "end",
-        }
-    }
-}
-
-impl fmt::Display for Refusal {
-    ghost output = { λ x. Some (listed x).name };
-
-    fn fmt<W: fmt::Write>(&self, f: &mut fmt::Formatter<W>) -> fmt::Result {
-        f.write_str(self.name())
-    }
-}
-
+// A layer reads as its name.
 impl fmt::Display for Layer {
     ghost output = { λ x. Some (layer_name x) };
 
     fn fmt<W: fmt::Write>(&self, f: &mut fmt::Formatter<W>) -> fmt::Result {
-        f.write_str(self.name())
+        f.write_str(match self {
+            Layer::Plan => "plan",
+            Layer::Frame => "frame",
+            Layer::Cargo => "cargo",
+            Layer::End => "end",
+        })
     }
 }
 
@@ -172,6 +159,10 @@ impl fmt::Display for Fault {
         show(refusal.number(), refusal, place, layer, f)
     }
 }
+
+impl Error for Refusal {}
+
+impl Error for Fault {}
 
 // Writes the four parts of a fault.
 fn show<W: fmt::Write>(

@@ -78,12 +78,7 @@ fn read_acknowledgment(octets: &[u8]) -> Result<Frame<'_>, Fault>
     ensures { seen result ≡ reading_as (acknowledgment_format (acknowledged_of (octet octets.now 1))) octets.now }
 {
     at_least(octets, 2)?;
-    let acknowledged = match octets[1] {
-        0x01 => Acknowledged::Data,
-        0x0d => Acknowledged::DiscoverResponse,
-        0x0f => Acknowledged::ConfigurationRequest,
-        _ => return Err(Refusal::Kind.at(1)),
-    };
+    let acknowledged = Acknowledged::try_from(octets[1]).map_err(|refusal| refusal.at(1))?;
     at_most(octets, 2)?;
     Ok(Frame::Acknowledgment {
         control: part(octets, 0, 1),
@@ -106,11 +101,7 @@ fn wish(octets: &[u8], from: usize) -> Result<Wish, Fault>
     requires { from + 1 < length octets.now }
     ensures { result ≡ wish_at from octets.now }
 {
-    let direction = match octets[from + 1] {
-        0 => Direction::Uplink,
-        1 => Direction::Bidirectional,
-        _ => return Err(Refusal::Kind.at(from + 1)),
-    };
+    let direction = Direction::try_from(octets[from + 1]).map_err(|refusal| refusal.at(from + 1))?;
     Ok(Wish {
         width: octets[from],
         direction,

@@ -1,12 +1,12 @@
 // Writing a frame into a lent buffer.
 ghost use Rattle.std.specs.Prelude.{◌≡◌, ◌+◌, ◌^◌, ◌<◌, ◌≤◌, [], ◌∷◌, ◌++◌, length};
-ghost use Rattle.frame.specs.Messages.{online_beacon, discovery_beacon, configuration_beacon, reset_beacon, data_frame, acknowledgment_frame, command_frame};
+ghost use Rattle.frame.specs.Messages.{online_beacon, management_beacon, reset_beacon, data_frame, acknowledgment_frame, command_frame};
 ghost use Rattle.frame.specs.Octets.{little};
 ghost use Rattle.frame.specs.Widths.{width_of};
-ghost use Rattle.frame.specs.Writing.{fitting, left_by, Written};
+ghost use Rattle.frame.specs.Writing.{joined, fitting, left_by, Written};
 
 use crate::faults::{Fault, Refusal};
-use crate::frames::{Acknowledged, BeaconHeader, Command, Configuration};
+use crate::frames::{Acknowledged, BeaconHeader, Command, Configuration, ManagementState};
 use crate::management::ManagementWidth;
 
 // The control octets: frame type 4, and the subtype in bits 6 and 7.
@@ -18,20 +18,28 @@ const ACKNOWLEDGMENT: u8 = 0x84;
 
 const COMMAND: u8 = 0xc4;
 
-// Writes three runs of octets one after another, if the buffer has room for all of them.
-fn put(first: &[u8], second: &[u8], third: &[u8], buffer: &mut [u8]) -> Result<usize, Fault>
-    requires { length first.now + length second.now + length third.now ≤ 1000 }
-    ensures answer { result ≡ fitting (first.now ++ (second.now ++ third.now)) buffer.old }
-    ensures memory { buffer.new ≡ left_by result (first.now ++ (second.now ++ third.now)) buffer.old }
+// The length of octets in parts, if the buffer has room for all of them.
+fn fit(parts: &[&[u8]], buffer: &[u8]) -> Result<usize, Fault>
+    ensures { result ≡ fitting (joined parts.now) buffer.now }
 {
-    let middle = first.len() + second.len();
-    let length = middle + third.len();
-    if buffer.len() < length {
-        return Err(Refusal::Space.at(0));
+    let mut left = buffer.len();
+    for part in parts {
+        left = left.checked_sub(part.len()).ok_or(Refusal::Space.at(0))?;
     }
-    buffer[0..first.len()].copy_from_slice(first);
-    buffer[first.len()..middle].copy_from_slice(second);
-    buffer[middle..length].copy_from_slice(third);
+    Ok(buffer.len() - left)
+}
+
+// Writes octets in parts, one after another at the buffer's start, if it has room for all of them.
+pub fn put(parts: &[&[u8]], buffer: &mut [u8]) -> Result<usize, Fault>
+    ensures answer { result ≡ fitting (joined parts.now) buffer.old }
+    ensures memory { buffer.new ≡ left_by result (joined parts.now) buffer.old }
+{
+    let length = fit(parts, buffer)?;
+    let mut at = 0;
+    for part in parts {
+        buffer[at..at + part.len()].copy_from_slice(part);
+        at += part.len();
+    }
     Ok(length)
 }
 
@@ -47,37 +55,20 @@ pub fn write_online_beacon(
     if bitmap.len() > 32 {
         return Err(Refusal::Surplus.at(38));
     }
-    put(&beacon_head(header, 0), &[timeslots], bitmap, buffer)
+    put(&[&beacon_head(header, 0), &[timeslots], bitmap], buffer)
 }
 
-// Writes a Discovery beacon.
-pub fn write_discovery_beacon(
+// Writes a beacon of a state that has management timeslots.
+pub fn write_management_beacon(
     header: BeaconHeader,
+    state: ManagementState,
     management: ManagementWidth,
     buffer: &mut [u8],
 ) -> Result<usize, Fault>
-    ensures { Written (discovery_beacon header (width_of management)) buffer.old result buffer.new }
+    ensures { Written (management_beacon state header (width_of management)) buffer.old result buffer.new }
 {
     put(
-        &beacon_head(header, 4 + 32 * management.timeslots()),
-        &[],
-        &[],
-        buffer,
-    )
-}
-
-// Writes a Configuration beacon.
-pub fn write_configuration_beacon(
-    header: BeaconHeader,
-    management: ManagementWidth,
-    buffer: &mut [u8],
-) -> Result<usize, Fault>
-    ensures { Written (configuration_beacon header (width_of management)) buffer.old result buffer.new }
-{
-    put(
-        &beacon_head(header, 6 + 32 * management.timeslots()),
-        &[],
-        &[],
+        &[&beacon_head(header, state as u8 + 32 * u8::from(management))],
         buffer,
     )
 }
@@ -86,7 +77,7 @@ pub fn write_configuration_beacon(
 pub fn write_reset_beacon(header: BeaconHeader, buffer: &mut [u8]) -> Result<usize, Fault>
     ensures { Written (reset_beacon header) buffer.old result buffer.new }
 {
-    put(&beacon_head(header, 7), &[], &[], buffer)
+    put(&[&beacon_head(header, 7)], buffer)
 }
 
 // The five octets that every beacon starts with.
@@ -109,14 +100,14 @@ pub fn write_data(payload: &[u8], buffer: &mut [u8]) -> Result<usize, Fault>
     if payload.len() > 124 {
         return Err(Refusal::Surplus.at(125));
     }
-    put(&[DATA], &[], payload, buffer)
+    put(&[&[DATA], payload], buffer)
 }
 
 // Writes an acknowledgment.
 pub fn write_acknowledgment(acknowledged: Acknowledged, buffer: &mut [u8]) -> Result<usize, Fault>
     ensures { Written (acknowledgment_frame acknowledged) buffer.old result buffer.new }
 {
-    put(&[ACKNOWLEDGMENT, acknowledged.code()], &[], &[], buffer)
+    put(&[&[ACKNOWLEDGMENT, acknowledged.into()]], buffer)
 }
 
 // Writes a command.
@@ -125,7 +116,7 @@ pub fn write_command(command: Command, buffer: &mut [u8]) -> Result<usize, Fault
 {
     match command {
         Command::DiscoverResponse { address, wish } => {
-            put_command(0x0d, address, &[wish.width, wish.direction.code()], buffer)
+            put_command(0x0d, address, &[wish.width, wish.direction.into()], buffer)
         }
         Command::ConfigurationStatus {
             address,
@@ -134,7 +125,7 @@ pub fn write_command(command: Command, buffer: &mut [u8]) -> Result<usize, Fault
             first,
             width,
         } => {
-            let more = [simple, wish.width, wish.direction.code(), first, width];
+            let more = [simple, wish.width, wish.direction.into(), first, width];
             put_command(0x0e, address, &more, buffer)
         }
         Command::ConfigurationRequest {
@@ -151,7 +142,10 @@ fn put_command(identifier: u8, address: u64, more: &[u8], buffer: &mut [u8]) -> 
     ensures memory { buffer.new ≡ left_by result (196 ∷ identifier ∷ (little 8 address ++ more.now)) buffer.old }
     ensures fits { address < 2 ^ 64 }
 {
-    put(&[COMMAND, identifier], &address.to_le_bytes(), more, buffer)
+    put(
+        &[&[COMMAND, identifier], &address.to_le_bytes(), more],
+        buffer,
+    )
 }
 
 // A configuration as a request carries it: the third octet, for management, is written 0.

@@ -1,19 +1,11 @@
--- The three copies, put together.
-use Rattle.std.proofs.Common.{arith, length-append, rules}
+-- Each part ends within the octets that have room.
+use Rattle.std.proofs.Common.{ℕ, List, Bor, [], arith}
 use Rattle.std.proofs.lemmas.Bool.Decides.{nat_tests}
-use Rattle.frame.proofs.Buffers.{three_runs}
+use Rattle.std.proofs.lemmas.Grind.{common_steps}
+use Rattle.std.proofs.lemmas.List.Folds.{length-flat_map-take}
 use Rattle.frame.proofs.writing.put.Goals as goal
 
-pub returns-then-buffer-length : goal.returns-then-buffer-length
-returns-then-buffer-length c = simp length-append (search rules)
-
-pub returns : goal.returns
-returns c = record {
-  answer = simp length-append (grind (arith, nat_tests));
-  memory =
-      let a = c.copy_from_slice.ensures.after in
-      let b = c.copy_from_slice-2.ensures.after in
-      let d = c.copy_from_slice-3.ensures.after in
-      let e = three_runs c.args.first.now c.args.second.now c.args.third.now c.args.buffer.now in
-      simp (a, b, d) e;
-}
+pub slice_bounds-copy_from_slice-end : goal.slice_bounds-copy_from_slice-end
+slice_bounds-copy_from_slice-end c =
+    let bound = length-flat_map-take (λ (p : Bor (List ℕ)). p.now) c.args.parts.now _ (record { ref_ptr = (0, 0); now = [] }) c.loop-part-test.true in
+    grind (arith, common_steps, nat_tests)
