@@ -8,7 +8,7 @@ ghost use Rattle.coordinator.specs.Steps.{beacon_of, open_answer, open_state, op
 
 use super::coordinator::Coordinator;
 use super::state::{Mode, OpenSuperframe, Opened};
-use frame::{BeaconHeader, Fault, ManagementWidth, Refusal};
+use frame::{BeaconHeader, Fault, ManagementState, ManagementWidth, Refusal};
 use plan::{Numbers, SlotPlan};
 
 // What every beacon of a plan carries.
@@ -30,16 +30,17 @@ impl<P: SlotPlan> Coordinator<P> {
     {
         let numbers = self.plan.numbers();
         let header = header(numbers);
-        let management = ManagementWidth::new(numbers.management).unwrap();
-        match self.inner.mode {
-            Mode::Discovery => frame::write_discovery_beacon(header, management, buffer),
-            Mode::Configuration => frame::write_configuration_beacon(header, management, buffer),
+        let state = match self.inner.mode {
+            Mode::Discovery => ManagementState::Discovery,
+            Mode::Configuration => ManagementState::Configuration,
             Mode::Online => {
                 let bitmap = &self.inner.sent[..numbers.bitmap_octets()];
-                frame::write_online_beacon(header, numbers.timeslots, bitmap, buffer)
+                return frame::write_online_beacon(header, numbers.timeslots, bitmap, buffer);
             }
-            Mode::Reset => frame::write_reset_beacon(header, buffer),
-        }
+            Mode::Reset => return frame::write_reset_beacon(header, buffer),
+        };
+        let management = ManagementWidth::try_from(numbers.management).unwrap();
+        frame::write_management_beacon(header, state, management, buffer)
     }
 
     // Opens the next superframe and writes its beacon into the buffer, while none is open.
