@@ -6,7 +6,7 @@ ghost use Rattle.plan.specs.Answers.{number_with};
 ghost use Rattle.plan.specs.Rules.{plan_of};
 ghost use Rattle.coordinator.specs.Beacons.{state_of, configuration_for};
 ghost use Rattle.coordinator.specs.Stages.{known, Notes, Replied};
-ghost use Rattle.coordinator.specs.Steps.{is_managing, is_configuring, record_at, with_record, as_configured, discovered, handing, requested, acknowledging, commanded, managed_by, manage_answer, manage_memory, manage_state};
+ghost use Rattle.coordinator.specs.Steps.{is_managing, is_configuring, record_at, with_record, as_configured, discovered, handing, requested, thanked, acknowledging, commanded, managed_by, manage_answer, manage_memory, manage_state};
 
 use super::coordinator::Coordinator;
 use super::state::{Inner, Mode, OpenSuperframe, Record};
@@ -43,17 +43,12 @@ fn note<F: FnOnce(&mut Record)>(records: &mut [Record], i: usize, change: F)
 
 impl Inner {
     // Takes down that the grant that was handed out last is acknowledged. There is no reply, whatever the buffer.
-    fn acknowledge(&mut self, acknowledged: Acknowledged) -> Result<usize, Fault>
-        ensures { (b : List ℕ) → Replied self.old (acknowledging self.old (is_configuring (state_of self.old.mode)) acknowledged) b result self.new b }
+    fn acknowledge(&mut self) -> Result<usize, Fault>
+        ensures { (b : List ℕ) → Replied self.old (thanked self.old self.old.handed) b result self.new b }
     {
-        match (acknowledged, self.mode, self.handed) {
-            (Acknowledged::ConfigurationRequest, Mode::Configuration, Some(i)) => {
-                note(&mut self.records, i, |record| record.configured = true);
-                self.handed = None;
-                Ok(0)
-            }
-            _ => Err(Refusal::Unwanted.at(0)),
-        }
+        let i = self.handed.take().ok_or(Refusal::Unwanted.at(0))?;
+        note(&mut self.records, i, |record| record.configured = true);
+        Ok(0)
     }
 }
 
@@ -93,26 +88,25 @@ impl<P: SlotPlan> Coordinator<P> {
         Ok(length)
     }
 
-    // Hears a command.
-    fn hear_command(&mut self, command: Command, buffer: &mut [u8]) -> Result<usize, Fault>
-        ensures replied { Replied self.old.inner (commanded (P.SlotPlan.meaning self.old.plan) self.old.inner (is_configuring (state_of self.old.inner.mode)) command) buffer.old result self.new.inner buffer.new }
-        ensures plan { self.new.plan ≡ self.old.plan }
-    {
-        match (command, self.inner.mode == Mode::Configuration) {
-            (Command::DiscoverResponse { address, .. }, false) => self.discover(address, buffer),
-            (Command::ConfigurationStatus { address, .. }, true) => self.request(address, buffer),
-            _ => Err(Refusal::Unwanted.at(0)),
-        }
-    }
-
-    // Hears a frame.
+    // Hears a frame that was read, if its kind is wanted in the mode.
     fn hear_frame(&mut self, frame: Frame<'_>, buffer: &mut [u8]) -> Result<usize, Fault>
         ensures replied { Replied self.old.inner (managed_by (P.SlotPlan.meaning self.old.plan) self.old.inner (is_configuring (state_of self.old.inner.mode)) (told frame.entry).message) buffer.old result self.new.inner buffer.new }
         ensures plan { self.new.plan ≡ self.old.plan }
     {
+        let configuring = self.inner.mode == Mode::Configuration;
         match frame {
-            Frame::Command { command, .. } => self.hear_command(command, buffer),
-            Frame::Acknowledgment { acknowledged, .. } => self.inner.acknowledge(acknowledged),
+            Frame::Command {
+                command: Command::DiscoverResponse { address, .. },
+                ..
+            } if !configuring => self.discover(address, buffer),
+            Frame::Command {
+                command: Command::ConfigurationStatus { address, .. },
+                ..
+            } if configuring => self.request(address, buffer),
+            Frame::Acknowledgment {
+                acknowledged: Acknowledged::ConfigurationRequest,
+                ..
+            } if configuring => self.inner.acknowledge(),
             _ => Err(Refusal::Unwanted.at(0)),
         }
     }
