@@ -3,8 +3,10 @@ ghost use Rattle.std.specs.Prelude.{◌≡◌};
 ghost use Rattle.coordinator.specs.Steps.{made, mode_answer, mode_state, close_answer, close_state, record_answer};
 
 use super::state::{Inner, Mode, OpenSuperframe, Record};
-use frame::Fault;
+use frame::{Fault, Refusal};
 use plan::SlotPlan;
+use repeats::no_bits;
+use std::mem;
 
 // The coordinator of a network, by a slot plan.
 #[derive(Drop)]
@@ -47,7 +49,11 @@ impl<P: SlotPlan> Coordinator<P> {
         ensures state { self.new.inner ≡ mode_state self.old.inner mode }
         ensures plan { self.new.plan ≡ self.old.plan }
     {
-        self.inner.set_mode(mode)
+        if self.inner.opened {
+            return Err(Refusal::Superframe.at(0));
+        }
+        self.inner.mode = mode;
+        Ok(())
     }
 
     // Closes the open superframe; what was heard in it is told by the next beacon. Any other superframe is handed back.
@@ -56,7 +62,15 @@ impl<P: SlotPlan> Coordinator<P> {
         ensures state { self.new.inner ≡ close_state self.old.inner superframe.number }
         ensures plan { self.new.plan ≡ self.old.plan }
     {
-        self.inner.close(superframe)
+        if !self.inner.is_open(superframe.number) {
+            return Err((Refusal::Superframe.at(0), superframe));
+        }
+        let OpenSuperframe { number } = superframe;
+        self.inner.opened = false;
+        self.inner.number = number.wrapping_add(1);
+        self.inner.last = 0;
+        self.inner.sent = mem::replace(&mut self.inner.gathered, no_bits());
+        Ok(())
     }
 
     // How far the device of grant i has come, or none where the plan has no such grant.

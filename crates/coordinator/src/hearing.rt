@@ -8,26 +8,16 @@ use super::state::{Heard, Inner, Mode, OpenSuperframe};
 use cargo::Cargo;
 use frame::{Fault, Refusal};
 use plan::{Grant, Numbers, SlotPlan};
-use repeats::{Bitmap, marked};
-
-// A bitmap after a grant's frame was heard in timeslot t. A repeat sets no bit.
-fn gathered(bitmap: Bitmap, numbers: Numbers, grant: Grant, t: u8) -> Bitmap
-    ensures { result ≡ gathering numbers t bitmap grant }
-{
-    if t <= numbers.retransmission {
-        bitmap
-    } else {
-        marked(bitmap, numbers, grant)
-    }
-}
 
 impl Inner {
-    // Takes down that a grant's frame was heard in timeslot t.
+    // Takes down that a grant's frame was heard in timeslot t. A repeat sets no bit.
     fn accept(&mut self, numbers: Numbers, grant: Grant, t: u8)
         ensures { self.new ≡ accepted numbers self.old t (Some grant) }
     {
-        self.gathered = gathered(self.gathered, numbers, grant, t);
         self.last = t;
+        if t > numbers.retransmission {
+            self.gathered = repeats::marked(self.gathered, numbers, grant);
+        }
     }
 }
 
