@@ -11,7 +11,7 @@ use super::state::{Mode, OpenSuperframe, Opened};
 use frame::{BeaconHeader, Fault, ManagementState, ManagementWidth, Refusal};
 use plan::{Numbers, SlotPlan};
 
-// What every beacon of a plan carries.
+// What every beacon of a plan carries. A From cannot stand here: both types are of other crates.
 fn header(numbers: Numbers) -> BeaconHeader
     ensures { result ≡ header_of numbers }
 {

@@ -9,6 +9,7 @@ use repeats::no_bits;
 use std::mem;
 
 // The coordinator of a network, by a slot plan.
+// Clauses name plan and state apart, and that the plan stays: one meaning for both would be no plainer, as the definitions of each call take the two.
 #[derive(Drop)]
 pub struct Coordinator<P> {
     pub(crate) plan: P,

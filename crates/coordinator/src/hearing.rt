@@ -4,40 +4,10 @@ ghost use Rattle.coordinator.specs.Beacons.{state_of};
 ghost use Rattle.coordinator.specs.Steps.{is_online, sending, listening, gathering, accepted, HearsFrom, Hears, hear_state};
 
 use super::coordinator::Coordinator;
-use super::state::{Heard, Inner, Mode, OpenSuperframe};
+use super::state::{Heard, Mode, OpenSuperframe};
 use cargo::Cargo;
 use frame::{Fault, Refusal};
-use plan::{Grant, Numbers, SlotPlan};
-
-impl Inner {
-    // Takes down that a grant's frame was heard in timeslot t. A repeat sets no bit.
-    fn accept(&mut self, numbers: Numbers, grant: Grant, t: u8)
-        ensures { self.new ≡ accepted numbers self.old t (Some grant) }
-    {
-        self.last = t;
-        if t > numbers.retransmission {
-            self.gathered = repeats::marked(self.gathered, numbers, grant);
-        }
-    }
-}
-
-// The cargo in a received data frame of a grant, if the grant carries as much.
-fn receive_from<C: Cargo + Drop>(
-    numbers: Numbers,
-    grant: Grant,
-    octets: &[u8],
-) -> Result<Heard<C>, Fault>
-    ensures { HearsFrom C.Cargo.image numbers (Ok grant) octets.now result }
-{
-    let cargo: C = cargo::receive(octets)?;
-    if cargo.length() > grant.carries(numbers.size) {
-        return Err(Refusal::Size.at(0));
-    }
-    Ok(Heard {
-        simple: grant.simple,
-        cargo,
-    })
-}
+use plan::{Grant, SlotPlan};
 
 impl<P: SlotPlan> Coordinator<P> {
     // The grant whose frame starts at timeslot t, by the bitmap that the open superframe's beacon carried.
@@ -68,6 +38,32 @@ impl<P: SlotPlan> Coordinator<P> {
         self.sending(t).ok_or(Refusal::Nobody.at(place))
     }
 
+    // The cargo in a received data frame of a grant, if the grant carries as much.
+    fn receive_from<C: Cargo + Drop>(&self, grant: Grant, octets: &[u8]) -> Result<Heard<C>, Fault>
+        ensures { HearsFrom C.Cargo.image (P.SlotPlan.meaning self.now.plan).numbers (Ok grant) octets.now result }
+    {
+        let cargo: C = cargo::receive(octets)?;
+        if cargo.length() > grant.carries(self.plan.numbers().size) {
+            return Err(Refusal::Size.at(0));
+        }
+        Ok(Heard {
+            simple: grant.simple,
+            cargo,
+        })
+    }
+
+    // Takes down that a grant's frame was heard in timeslot t. A repeat sets no bit.
+    fn accept(&mut self, grant: Grant, t: u8)
+        ensures state { self.new.inner ≡ accepted (P.SlotPlan.meaning self.old.plan).numbers self.old.inner t (Some grant) }
+        ensures plan { self.new.plan ≡ self.old.plan }
+    {
+        let numbers = self.plan.numbers();
+        self.inner.last = t;
+        if t > numbers.retransmission {
+            self.inner.gathered = repeats::marked(self.inner.gathered, numbers, grant);
+        }
+    }
+
     // Hears a data frame that starts at a timeslot of the open superframe: the cargo, under the simple address of the sender.
     pub fn hear<C: Cargo + Drop>(
         &mut self,
@@ -80,9 +76,8 @@ impl<P: SlotPlan> Coordinator<P> {
         ensures plan { self.new.plan ≡ self.old.plan }
     {
         let grant = self.listening(superframe, timeslot)?;
-        let numbers = self.plan.numbers();
-        let heard = receive_from(numbers, grant, octets)?;
-        self.inner.accept(numbers, grant, timeslot);
+        let heard = self.receive_from(grant, octets)?;
+        self.accept(grant, timeslot);
         Ok(heard)
     }
 }

@@ -13,7 +13,7 @@ use super::state::{Inner, Mode, OpenSuperframe, Record};
 use frame::{Acknowledged, Command, Configuration, Fault, Frame, Refusal};
 use plan::{Grant, Numbers, SlotPlan};
 
-// What a device is told of its grant.
+// What a device is told of its grant. A From cannot stand here: all three types are of other crates.
 fn configuration(numbers: Numbers, grant: Grant) -> Configuration
     ensures { result ≡ configuration_for numbers grant }
 {
@@ -31,6 +31,7 @@ fn configuration(numbers: Numbers, grant: Grant) -> Configuration
 }
 
 // Changes the record of grant i in place. A number past the table changes nothing.
+// By its index: after `get_mut` of a slice no proof knows what the slice holds.
 fn note<F: FnOnce(&mut Record)>(records: &mut [Record], i: usize, change: F)
     requires { F.IsAlwaysCallable change }
     ensures { Notes (λ x y. FnOnceReturnsAtMut F.FnOnce change x tt y) records.old i records.new }
