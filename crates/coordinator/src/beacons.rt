@@ -1,8 +1,6 @@
 // Writing the beacon that opens a superframe.
-ghost use Rattle.std.specs.Prelude.{◌≡◌, ◌≤◌};
-ghost use Rattle.frame.specs.Widths.{width_of};
+ghost use Rattle.std.specs.Prelude.{◌≡◌};
 ghost use Rattle.frame.specs.Writing.{fitting, left_by};
-ghost use Rattle.plan.specs.Rules.{NumbersKeep};
 ghost use Rattle.coordinator.specs.Beacons.{header_of};
 ghost use Rattle.coordinator.specs.Steps.{beacon_of, open_answer, open_state, open_memory};
 

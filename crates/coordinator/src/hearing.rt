@@ -1,7 +1,6 @@
 // Hearing a data frame in a timeslot.
 ghost use Rattle.std.specs.Prelude.{◌≡◌, Some, Ok};
-ghost use Rattle.coordinator.specs.Beacons.{state_of};
-ghost use Rattle.coordinator.specs.Steps.{is_online, sending, listening, gathering, accepted, HearsFrom, Hears, hear_state};
+ghost use Rattle.coordinator.specs.Steps.{sending, listening, accepted, HearsFrom, Hears, hear_state};
 
 use super::coordinator::Coordinator;
 use super::state::{Heard, Mode, OpenSuperframe};

@@ -1,12 +1,11 @@
 // Hearing a management frame.
-ghost use Rattle.std.specs.Prelude.{◌≡◌, ℕ, ◌≤◌, List, [], IfOk, Some};
+ghost use Rattle.std.specs.Prelude.{◌≡◌, ℕ, List};
 ghost use Rattle.std.specs.Fn.{FnOnceReturnsAtMut};
 ghost use Rattle.frame.specs.Views.{told};
 ghost use Rattle.plan.specs.Answers.{number_with};
-ghost use Rattle.plan.specs.Rules.{plan_of};
 ghost use Rattle.coordinator.specs.Beacons.{state_of, configuration_for};
 ghost use Rattle.coordinator.specs.Stages.{known, Notes, Replied};
-ghost use Rattle.coordinator.specs.Steps.{is_managing, is_configuring, record_at, with_record, as_configured, discovered, handing, requested, thanked, acknowledging, commanded, managed_by, manage_answer, manage_memory, manage_state};
+ghost use Rattle.coordinator.specs.Steps.{is_configuring, discovered, requested, thanked, managed_by, manage_answer, manage_memory, manage_state};
 
 use super::coordinator::Coordinator;
 use super::state::{Inner, Mode, OpenSuperframe, Record};

@@ -102,7 +102,7 @@ module _ (m : PlanMeaning) (rules : Rules m) (i : ℕ) (g : Grant) (xs : List �
 -- Hearing.
 
 nonsense : {A B : Type 0} {P : Type 0} (x : A) (y : B) → Err x ≡ Ok y → P
-nonsense x y e = let z : ◌≡◌ {A = ℕ} 0 1 = cc in absurd (omega arith)
+nonsense x y e = absurd cc
 
 module _ (f1 f2 f3 f4 : Fault) (r : Result Grant Fault) (g : Grant) where
   passed : (a b c d : Bool) → cond a (Err f1) (cond b (Err f2) (cond c (Err f3) (cond d (Err f4) r))) ≡ Ok g → (a ≡ false) × (b ≡ false) × (c ≡ false) × (d ≡ false) × (r ≡ Ok g)
@@ -432,7 +432,7 @@ module _ {C : Type 0} (m : PlanMeaning) (rules : Rules m) (k : Inner) (ds : List
 -- Hearing a data frame.
 
 granted_at : (m : PlanMeaning) (o : Option ℕ) (g : Grant) → granted m o ≡ Some g → (i : ℕ) × (grant_at m i ≡ Some g)
-granted_at m None g e = let z : ◌≡◌ {A = ℕ} 0 1 = cc in absurd (omega arith)
+granted_at m None g e = absurd cc
 granted_at m (Some i) g e = (i, e)
 
 -- the grant of a sender is one of the plan
@@ -441,7 +441,7 @@ sender_granted m k t g e = granted_at m (sender_at m k.sent t) g e
 
 module _ {C : Type 0} (m : PlanMeaning) (rules : Rules m) (k : Inner) (ds : List (Deed C)) where
   heard_so : (t : ℕ) (xs : List ℕ) (simple : ℕ) (c : C) (o : Option Grant) (g : Grant) → sending m k t ≡ o → o ≡ Some g → k.opened ≡ true → Steady m k ds → Steady m (coordinator.accepted m.numbers k t o) (hand_up t xs simple c ∷ ds)
-  heard_so t xs simple c None g d e opened s = let z : ◌≡◌ {A = ℕ} 0 1 = cc in absurd (omega arith)
+  heard_so t xs simple c None g d e opened s = absurd cc
   heard_so t xs simple c (Some h) g d e opened s =
       let w = sender_granted m k t h d in
       record {
