@@ -222,7 +222,7 @@ module _ {C : Type 0} (image : C → List ℕ) (n : Numbers) (g : Grant) (t : �
   fresh_turns c (Some x) (Some y) r h = tt
   fresh_turns c (Some x) None r h =
       cond_both (ltb (device.room_in c) (length (image x))) silent (fresh x) (Turns (Some c) (Some x) None r) (λ _. tt)
-      (λ _. (λ z. let y : ◌≡◌ {A = ℕ} 0 1 = cc in absurd (omega arith), refl, refl, h))
+      (λ _. (λ z. absurd cc, refl, refl, h))
 
   again_turns : (c : Option Configuration) (w o : Option C) (r : Option (Repeat C)) → Turns c w o r (device.again_turn t r)
   again_turns c w o None = tt
