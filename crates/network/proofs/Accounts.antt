@@ -1,6 +1,5 @@
 -- What a device may count on, from a book that agrees with a history.
 use Rattle.std.proofs.Common.{◌≡◌, ℕ, suc, ◌+◌, ◌<◌, ◌≤◌, Bool, true, false, cond, ◌⊎◌, List, [], ◌∷◌, ◌++◌, map, length, Some, None, Option, sym, refl, ap, ◌∙◌, subst, inl, inr, true≢false, arith}
-use mathlib.Core.Bool.{false≢true}
 use lib.ListN.{length-map}
 use Rattle.std.proofs.lemmas.Bool.{cases_eq, eq-eqb, ne_eqb, cond-true, cond-false}
 use Rattle.device.specs.declared.state.Device.{Device}
@@ -86,7 +85,7 @@ module _ {C : Type 0} where
 
   arrival_top : (own : Bool) (y : Arrival C) (rest other : List (Arrival C)) → own ≡ true → Among y (cond own (y ∷ rest) other)
   arrival_top true y rest other o = inl refl
-  arrival_top false y rest other o = absurd (false≢true o)
+  arrival_top false y rest other o = absurd cc
 
   -- an arrival comes from the line with its number
   from_line : (book : List (Line C)) (a : Arrival C) → Among a (arrivals_of book) → (y : Line C) × (numbered book a.number ≡ Some y) × Of a.number y.cargo y.own y.again a

@@ -334,7 +334,7 @@ transmitted e t a xs buffer memory l q p =
 -- a superframe is open where its beacon was announced
 pub open_now : (o : Bool) (a : Option (List ℕ)) (xs : List ℕ) → a ≡ cond o (Some xs) None → is_some a ≡ true → o ≡ true
 open_now true a xs q h = refl
-open_now false a xs q h = let never : is_some a ≡ false = ap is_some q in absurd (both_ways _ never h)
+open_now false a xs q h = let never : is_some a ≡ false = ap is_some q in absurd cc
 
 module _ {C : Type 0} (image : C → List ℕ) (m : PlanMeaning) (rules : Rules m) (e i : ℕ) (g : Grant) (at : grant_at m i ≡ Some g) (k : Inner) (v : Device C) (ds : List (Deed C)) (steady : Steady m k ds) where
   abbrev pub S : Device C → List (Deed C) → Type 0

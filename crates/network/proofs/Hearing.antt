@@ -1,7 +1,7 @@
 -- A data frame that is heard keeps every device sound: the one that sent it, and the others.
 use Rattle.std.proofs.Common.{◌≡◌, ℕ, suc, ◌<◌, ◌≤◌, Bool, true, false, cond, ◌&&◌, ◌⊎◌, List, [], ◌∷◌, ◌++◌, map, length, Some, None, Ok, Option, sym, refl, ap, ◌∙◌, subst, inl, inr, ⊎_elim, arith}
 use lib.ListN.{length-map}
-use Rattle.std.proofs.lemmas.Bool.{both_ways, cases_lt, cond-true, cond-false, eq-eqb, ne_eqb, le-leb, lt-leb}
+use Rattle.std.proofs.lemmas.Bool.{cases_lt, cond-true, cond-false, eq-eqb, ne_eqb, le-leb, lt-leb}
 use Rattle.plan.specs.declared.grant.Grant.{Grant}
 use Rattle.plan.specs.Rules.{PlanMeaning, Rules, grant_at}
 use Rattle.plan.specs.Answers.{number_with}
@@ -96,7 +96,7 @@ module _ {C : Type 0} (image : C → List ℕ) (m : PlanMeaning) (rules : Rules 
             bound = s.bound;
             book = s.book;
             agrees = own_agrees;
-            unheard = λ _ unaware. absurd (both_ways _ unaware aware);
+            unheard = λ _ unaware. absurd cc;
             late = λ _ _ _. omega arith;
             quiet = λ none. absurd cc;
             due = s.due;

@@ -95,8 +95,8 @@ module _ {C : Type 0} (image : C → List ℕ) (n : Numbers) (e : ℕ) (g : Gran
         sent_since = rw itself refl;
         waits = s.agrees.waits;
       };
-      unheard = rw itself (λ o l. absurd (both_ways _ l refl));
-      late = λ o l h. absurd (both_ways _ unheard h);
+      unheard = rw itself (λ o l. absurd cc);
+      late = λ o l h. absurd (cc unheard);
       quiet = rw itself (λ _. unheard);
       due = λ r h. absurd cc;
       frames = λ o x among d k. never x among d k;
@@ -118,8 +118,8 @@ module _ {C : Type 0} (image : C → List ℕ) (n : Numbers) (e : ℕ) (g : Gran
         sent_since = rw itself refl;
         waits = s.agrees.waits;
       };
-      unheard = rw itself (λ o l. absurd (both_ways _ l refl));
-      late = λ o l h. absurd (both_ways _ unheard h);
+      unheard = rw itself (λ o l. absurd cc);
+      late = λ o l h. absurd (cc unheard);
       quiet = rw itself (λ _. unheard);
       due = λ r h _ _. let p = repeats r h in (record { top = line (announces_online b) φ x; rest = s.book; book_is = refl; fate = p.0; cargo = sym p.1; starts = p.2 }, refl);
       frames = λ o x among d k. never x among d k;

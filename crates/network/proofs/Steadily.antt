@@ -2,7 +2,7 @@
 use Rattle.std.proofs.Common.{◌≡◌, ℕ, zero, suc, ◌+◌, ◌<◌, Bool, true, false, cond, not, ◌&&◌, ◌||◌, eqb, ltb, leb, List, [], ◌∷◌, length, take, drop, is_ok, Some, None, Ok, Err, Option, Result, sym, refl, ap, ◌∙◌, subst, inl, inr, arith}
 use lib.ListN.{length-replicate}
 use Rattle.std.proofs.lemmas.List.{take_at}
-use Rattle.std.proofs.lemmas.Bool.{and_parts, both_ways, cond-false, leb-false, lt-ltb, not-false}
+use Rattle.std.proofs.lemmas.Bool.{and_parts, cond-false, leb-false, lt-ltb, not-false}
 use Rattle.frame.specs.declared.faults.Fault.{Fault}
 use Rattle.frame.specs.declared.faults.Refusal.TheVariants as refusal
 use Rattle.frame.specs.declared.frames.Acknowledged.{Acknowledged}
@@ -247,7 +247,7 @@ begun_steady C m = record {
   gathered_alike = always_alike m;
   sent_alike = always_alike m;
   announces = refl;
-  counted = λ e. absurd (both_ways false refl e);
+  counted = λ e. absurd cc;
   cleared = λ e. refl;
   answered = λ xs a. absurd a;
   earlier = λ x a. absurd a;
@@ -289,7 +289,7 @@ module _ {C : Type 0} (m : PlanMeaning) (k : Inner) (ds : List (Deed C)) where
     sent_alike = s.sent_alike;
     announces = ap Some e;
     counted = λ q. omega arith;
-    cleared = λ q. absurd (both_ways true q refl);
+    cleared = λ q. absurd cc;
     answered = s.answered;
     earlier = λ x a. let h = s.earlier x a in omega arith;
   }
@@ -317,7 +317,7 @@ module _ {C : Type 0} (m : PlanMeaning) (k : Inner) (ds : List (Deed C)) where
     gathered_alike = always_alike m;
     sent_alike = s.gathered_alike;
     announces = refl;
-    counted = λ q. absurd (both_ways false refl q);
+    counted = λ q. absurd cc;
     cleared = λ q. refl;
     answered = s.answered;
     earlier = s.earlier;
@@ -448,7 +448,7 @@ module _ {C : Type 0} (m : PlanMeaning) (rules : Rules m) (k : Inner) (ds : List
         sent_alike = s.sent_alike;
         announces = s.announces;
         counted = s.counted;
-        cleared = λ q. absurd (both_ways k.opened q opened);
+        cleared = λ q. absurd cc;
         answered = s.answered;
         earlier = s.earlier;
       }
