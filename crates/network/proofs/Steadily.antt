@@ -36,7 +36,7 @@ use Rattle.coordinator.specs.Steps.{is_online, is_managing, is_configuring, is_o
 use Rattle.device.specs.declared.state.Fate.{Fate}
 use Rattle.network.specs.Calls.{set_mode, opens, hears, hears_management, closes, takes_beacon, misses_beacon, is_offered, sends, writes_management, takes_management}
 use Rattle.network.specs.Deeds.{Deed, opening, closing, hand_up, reply, news, acceptance, transmission, taking, nothing, sent_deed, deed}
-use Rattle.network.specs.History.{Sending, superframes}
+use Rattle.network.specs.History.{Sending, superframes, announced, replies, sendings}
 use Rattle.network.proofs.Sound.{Steady, ReplyOf}
 
 -- Marking.
@@ -148,41 +148,26 @@ module _ {C : Type 0} (image : C → List ℕ) (m : PlanMeaning) (k : Inner) whe
 
 -- Deeds that leave the coordinator as it is.
 module _ {C : Type 0} (m : PlanMeaning) (k : Inner) (ds : List (Deed C)) where
-  pub idle_steady : Steady m k ds → Steady m k (nothing ∷ ds)
-  idle_steady s = record {
+  still_steady : (es : List (Deed C)) → announced es ≡ announced ds → superframes es ≡ superframes ds → replies es ≡ replies ds → sendings es ≡ sendings ds → Steady m k ds → Steady m k es
+  still_steady es announces counts answers frames s = record {
     size = s.size;
     gathered_alike = s.gathered_alike;
     sent_alike = s.sent_alike;
-    announces = s.announces;
-    counted = s.counted;
+    announces = announces ∙ s.announces;
+    counted = rw counts s.counted;
     cleared = s.cleared;
-    answered = s.answered;
-    earlier = s.earlier;
+    answered = rw answers s.answered;
+    earlier = rw (frames, counts) s.earlier;
   }
+
+  pub idle_steady : Steady m k ds → Steady m k (nothing ∷ ds)
+  idle_steady s = still_steady (nothing ∷ ds) refl refl refl refl s
 
   pub news_steady : (d : ℕ) (b : Option (List ℕ)) (φ : Option Fate) → Steady m k ds → Steady m k (news d b φ ∷ ds)
-  news_steady d b φ s = record {
-    size = s.size;
-    gathered_alike = s.gathered_alike;
-    sent_alike = s.sent_alike;
-    announces = s.announces;
-    counted = s.counted;
-    cleared = s.cleared;
-    answered = s.answered;
-    earlier = s.earlier;
-  }
+  news_steady d b φ s = still_steady (news d b φ ∷ ds) refl refl refl refl s
 
   pub acceptance_steady : (d : ℕ) (x : C) → Steady m k ds → Steady m k (acceptance d x ∷ ds)
-  acceptance_steady d x s = record {
-    size = s.size;
-    gathered_alike = s.gathered_alike;
-    sent_alike = s.sent_alike;
-    announces = s.announces;
-    counted = s.counted;
-    cleared = s.cleared;
-    answered = s.answered;
-    earlier = s.earlier;
-  }
+  acceptance_steady d x s = still_steady (acceptance d x ∷ ds) refl refl refl refl s
 
   pub transmission_steady : (d t : ℕ) (xs : List ℕ) → Steady m k ds → Steady m k (transmission d t xs ∷ ds)
   transmission_steady d t xs s = record {
@@ -200,16 +185,7 @@ module _ {C : Type 0} (m : PlanMeaning) (k : Inner) (ds : List (Deed C)) where
   }
 
   pub taking_steady : (d : ℕ) (xs : List ℕ) → Steady m k ds → Steady m k (taking d xs ∷ ds)
-  taking_steady d xs s = record {
-    size = s.size;
-    gathered_alike = s.gathered_alike;
-    sent_alike = s.sent_alike;
-    announces = s.announces;
-    counted = s.counted;
-    cleared = s.cleared;
-    answered = s.answered;
-    earlier = s.earlier;
-  }
+  taking_steady d xs s = still_steady (taking d xs ∷ ds) refl refl refl refl s
 
   -- the calls of a device
   pub beacon_steady : (d : ℕ) (xs : List ℕ) (r : Result (Option Fate) Fault) → Steady m k ds → Steady m k (deed (takes_beacon d xs r) ∷ ds)
