@@ -33,6 +33,7 @@ use Rattle.network.specs.Deeds.{Deed, acceptance, transmission, taking, nothing,
 use Rattle.network.specs.History.{Among, Sending, superframes, learned, announced, replies, sendings, accepted}
 use Rattle.network.specs.Runs.{KeepsRules}
 use Rattle.network.proofs.Books.{Line, listed}
+use Rattle.network.proofs.Others.{unmoved, sound_still}
 use Rattle.network.proofs.Sound.{Sound, frame_with, OwnFrame, AgainFrame, Outside, ReplyOf, Steady}
 
 -- a device as before but for its wish, phase, configuration and news
@@ -84,26 +85,7 @@ module _ {C : Type 0} (image : C → List ℕ) (n : Numbers) (e : ℕ) (g : Gran
     }
 
     refitted_taking : (xs : List ℕ) → Kept v ds → Kept (refit v wish phase c brought) (taking e xs ∷ ds)
-    refitted_taking xs s = record {
-      address = s.address;
-      configured = configured;
-      bound = bound;
-      book = s.book;
-      agrees = record {
-        accepts = s.agrees.accepts;
-        tells = s.agrees.tells;
-        sends = s.agrees.sends;
-        arrives = s.agrees.arrives;
-        just = s.agrees.just;
-        sent_since = s.agrees.sent_since;
-        waits = s.agrees.waits;
-      };
-      unheard = s.unheard;
-      late = s.late;
-      quiet = s.quiet;
-      due = s.due;
-      frames = λ o x among d k. let f = s.frames o x among d k in (f.0, frames_as v (refit v wish phase c brought) s.book x refl refl f.1);
-    }
+    refitted_taking xs s = sound_still image n e g opened gathered sent last (refit v wish phase c brought) (taking e xs ∷ ds) (nothing ∷ ds) (unmoved e ds) refl refl (refitted s)
 
   -- a deed that comes to nothing
   pub idle : (v : Device C) (ds : List (Deed C)) → Kept v ds → Kept v (nothing ∷ ds)

@@ -1,6 +1,6 @@
 -- What happens elsewhere keeps how a device stands.
-use Rattle.std.proofs.Common.{◌≡◌, ℕ, zero, suc, ◌-◌, ◌≤◌, Bool, true, false, cond, ◌&&◌, eqb, List, [], ◌∷◌, take, is_ok, Some, None, Ok, Err, Option, Result, sym, refl, ap, ◌∙◌, subst, inl, inr, arith}
-use Rattle.std.proofs.lemmas.Bool.{and_right, eqb-false}
+use Rattle.std.proofs.Common.{◌≡◌, ℕ, zero, suc, ◌-◌, ◌≤◌, Bool, true, false, cond, eqb, List, [], ◌∷◌, take, is_ok, Some, None, Ok, Err, Option, Result, sym, refl, ap, ◌∙◌, subst, inl, inr, arith}
+use Rattle.std.proofs.lemmas.Bool.{and_parts, and_right, eqb-false}
 use Rattle.frame.specs.declared.faults.Fault.{Fault}
 use Rattle.frame.specs.declared.frames.Wish.{Wish}
 use Rattle.frame.specs.Writing.{fitting}
@@ -24,7 +24,7 @@ use Rattle.network.proofs.Books.{Line, Agrees}
 use Rattle.network.proofs.Sound.{Sound, Outside, Steady, Standing}
 
 -- two histories tell the same of the device at place e
-abbrev Same : {C : Type 0} → ℕ → List (Deed C) → List (Deed C) → Type 0
+abbrev pub Same : {C : Type 0} → ℕ → List (Deed C) → List (Deed C) → Type 0
 Same e ds before = record {
   accepts : accepted e ds ≡ accepted e before;
   tells : told e ds ≡ told e before;
@@ -35,7 +35,7 @@ Same e ds before = record {
   older : (x : Sending) → Among x (sendings ds) → x.device ≡ e → Among x (sendings before);
 }
 
-unmoved : {C : Type 0} (e : ℕ) (ds : List (Deed C)) → Same e ds ds
+pub unmoved : {C : Type 0} (e : ℕ) (ds : List (Deed C)) → Same e ds ds
 unmoved e ds = record { accepts = refl; tells = refl; sends = λ r. refl; arrives = λ r simple. refl; since = λ r. refl; waiting = λ r. refl; older = λ x among here. among }
 
 agrees_still : {C : Type 0} (r simple e : ℕ) (ds before : List (Deed C)) (waiting sent : Option C) (k : ℕ) (bit : Bool) (book : List (Line C)) → Same e ds before → Agrees r (Some simple) e before waiting sent k bit book → Agrees r (Some simple) e ds waiting sent k bit book
@@ -69,13 +69,9 @@ none_open : {A : Type 0} (b : Bool) (f : Fault) (r : Result A Fault) → is_ok (
 none_open true f r e = absurd cc
 none_open false f r e = refl
 
-first_true : (a b : Bool) → (a && b) ≡ true → a ≡ true
-first_true true b e = refl
-first_true false b e = e
-
 module _ {C : Type 0} (image : C → List ℕ) (n : Numbers) (e : ℕ) where
   -- also whether the device had its news, and the superframes
-  sound_still : (g : Grant) (opened : Bool) (gathered sent : List ℕ) (last : ℕ) (v : Device C) (ds before : List (Deed C)) → Same e ds before → learned e ds ≡ learned e before → superframes ds ≡ superframes before → Sound image n e g opened gathered sent last v before → Sound image n e g opened gathered sent last v ds
+  pub sound_still : (g : Grant) (opened : Bool) (gathered sent : List ℕ) (last : ℕ) (v : Device C) (ds before : List (Deed C)) → Same e ds before → learned e ds ≡ learned e before → superframes ds ≡ superframes before → Sound image n e g opened gathered sent last v before → Sound image n e g opened gathered sent last v ds
   sound_still g opened gathered sent last v ds before same learns counts s = record {
     address = s.address;
     configured = s.configured;
@@ -277,4 +273,4 @@ module _ {C : Type 0} (image : C → List ℕ) (m : PlanMeaning) (e : ℕ) where
     closed_as_answered false j (Err h) f opened is aware s = idle s
 
     pub closed_kept : (j : ℕ) (r : Result (Unit {0}) (Fault × OpenSuperframe)) → r ≡ coordinator.close_answer k j → (deed {C = C} (closes j r) ≡ closing → learned e ds ≡ true) → Standing image m.numbers e o k v ds → Standing image m.numbers e o (coordinator.close_state k j) v (deed (closes j r) ∷ ds)
-    closed_kept j r is aware s = closed_as_answered (coordinator.is_open k j) j r _ (first_true k.opened (eqb j k.number)) is aware s
+    closed_kept j r is aware s = closed_as_answered (coordinator.is_open k j) j r _ (λ q. (and_parts k.opened (eqb j k.number) q).0) is aware s

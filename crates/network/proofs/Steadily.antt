@@ -101,7 +101,6 @@ module _ (m : PlanMeaning) (rules : Rules m) (i : ℕ) (g : Grant) (xs : List �
 
 -- Hearing.
 
-
 module _ (f1 f2 f3 f4 : Fault) (r : Result Grant Fault) (g : Grant) where
   passed : (a b c d : Bool) → cond a (Err f1) (cond b (Err f2) (cond c (Err f3) (cond d (Err f4) r))) ≡ Ok g → (a ≡ false) × (b ≡ false) × (c ≡ false) × (d ≡ false) × (r ≡ Ok g)
   passed true b c d e = absurd cc
