@@ -15,3 +15,4 @@ pub struct Panel {
 
 pub mod imaging;
 pub mod making;
+pub mod showing;

@@ -13,3 +13,4 @@ pub struct Reading {
 
 pub mod imaging;
 pub mod making;
+pub mod showing;

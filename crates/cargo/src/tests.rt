@@ -46,6 +46,17 @@ fn refused(rt: HostRuntime) {
     assert!(rt; refusal::<Panel>(&[9, 1]) == cargo);
 }
 
+#[test]
+fn texts(rt: HostRuntime) -> Result<(), Fail> {
+    let reading: Reading = receive(&[0x44, 0x00, 0x00, 0x00, 0x80, 0x03])?;
+    let value = format!(in rt.alloc(); "{reading}")?;
+    assert_eq!(rt; value.as_str(), "reading -2147483648 3");
+    let panel: Panel = <Panel as Cargo>::read(&[0x09, 0x05, 0x01])?;
+    let inputs = format!(in rt.alloc(); "{panel}")?;
+    assert_eq!(rt; inputs.as_str(), "panel 101000001");
+    Ok(())
+}
+
 // A panel of that many inputs, of which the last one is on.
 fn last_on(count: usize) -> Option<Panel> {
     let inputs = [false; 64];

@@ -63,7 +63,7 @@ impl Panel {
     }
 
     // Whether an input is on.
-    fn is_on(self, k: u8) -> bool
+    pub(super) fn is_on(self, k: u8) -> bool
         requires { k < self.count }
         ensures { result ≡ slice_index_or (inputs_of self) k false }
     {
