@@ -53,7 +53,7 @@ impl Host {
     pub fn open(&mut self, buffer: &mut [u8]) -> Result<Begun, Fault> {
         let Opened { length, superframe } = self.coordinator.open(buffer)?;
         let number = superframe.number();
-        match mem::replace(&mut self.held, Some(superframe)) {
+        match self.held.replace(superframe) {
             None => Ok(Begun { number, length }),
             Some(_) => unreachable(),
         }
@@ -81,7 +81,7 @@ impl Host {
 
     // Closes the open superframe and tells its number, or none where none is open.
     pub fn close(&mut self) -> Option<u32> {
-        let superframe = mem::replace(&mut self.held, None)?;
+        let superframe = self.held.take()?;
         let number = superframe.number();
         match self.coordinator.close(superframe) {
             Ok(()) => Some(number),

@@ -5,7 +5,7 @@ ghost use Rattle.plan.specs.Judged.{lawful};
 ghost use Rattle.plan.specs.EvenPlans.{even_meaning};
 ghost use Rattle.plan.specs.ListedPlans.{listed_meaning};
 
-use frame::Fault;
+use crate::stops::Stop;
 use plan::{EvenPlan, Grant, ListedPlan, Numbers, SlotPlan};
 use std::alloc::{AllocError, Global};
 
@@ -18,19 +18,20 @@ pub enum AnyPlan {
 
 impl AnyPlan {
     // The same plan once more, for a network of its own.
-    pub fn again(&self, heap: Global) -> Result<Result<AnyPlan, Fault>, AllocError> {
+    pub fn again(&self, heap: Global) -> Result<AnyPlan, Stop> {
         match self {
-            AnyPlan::Even(plan) => Ok(Ok(AnyPlan::Even(*plan))),
+            AnyPlan::Even(plan) => Ok(AnyPlan::Even(*plan)),
             AnyPlan::Listed(plan) => {
-                let grants = grants_of(plan, heap)?;
-                Ok(listed(plan.numbers(), grants))
+                let plan = ListedPlan::new(plan.numbers(), grants_of(plan, heap)?)?;
+                Ok(AnyPlan::Listed(plan))
             }
         }
     }
 }
 
-fn listed(numbers: Numbers, grants: Vec<Grant>) -> Result<AnyPlan, Fault> {
-    Ok(AnyPlan::Listed(ListedPlan::new(numbers, grants)?))
+// The last of a run of timeslots.
+pub fn last(first: u8, width: u8) -> u16 {
+    (u16::from(first) + u16::from(width)).saturating_sub(1)
 }
 
 // The grants of a plan.
