@@ -1,6 +1,7 @@
 -- What is reported of a line of a capture.
 use Rattle.std.specs.Prelude.{ℕ, List, ◌++◌, Some, None, Ok, Err, codes, Option, Result}
 use Rattle.frame.specs.declared.faults.Fault.{Fault}
+use Rattle.frame.specs.declared.frames.Frame.{Frame}
 use Rattle.frame.specs.Formats.{Told, reading}
 use Rattle.frame.specs.Refusals.{fault_text}
 use Rattle.frame.specs.Views.{told}
@@ -24,6 +25,11 @@ abbrev pub report_seen : Report → Reported
 report_seen report.NotOctets = unreadable
 report_seen (report.Refused e) = answered (Err e)
 report_seen (report.Sound f) = answered (Ok (told f))
+
+-- the report of octets, from what they read as
+abbrev pub report_from : Result Frame Fault → Report
+report_from (Ok f) = report.Sound f
+report_from (Err e) = report.Refused e
 
 -- a report as text
 abbrev pub report_text : Report → List ℕ

@@ -1,14 +1,13 @@
 // What is reported of a line.
 ghost use Rattle.std.specs.Prelude.{◌≡◌, ℕ, List, Some};
 ghost use Rattle.std.specs.Option.{option_map};
-ghost use Rattle.frame.specs.Formats.{reading};
 ghost use Rattle.hexadecimal.specs.LineOf.{line_of};
 ghost use Rattle.hexadecimal.specs.Reading.{Read};
-ghost use Rattle.capture.specs.Reports.{reported, answered, report_seen, report_text};
+ghost use Rattle.capture.specs.Reports.{reported, report_from, report_seen, report_text};
 
 use crate::shown::Dissected;
 use frame::{Fault, Frame, read};
-use hexadecimal::{HexLine, Line};
+use hexadecimal::{HexLine, NotOctets};
 use std::fmt;
 
 // What is reported of a line that is not skipped.
@@ -25,17 +24,19 @@ impl Report<'_> {
         ensures { (t : List ℕ) → Read line.now t → option_map report_seen result ≡ reported (line_of t) }
     {
         match line.told() {
-            Line::Skipped => None,
-            Line::NotOctets => Some(Report::NotOctets),
-            Line::Octets(octets) => Some(Report::of_octets(octets)),
+            Ok(None) => None,
+            Ok(Some(octets)) => Some(Report::from(read(octets))),
+            Err(NotOctets) => Some(Report::NotOctets),
         }
     }
+}
 
-    // The report of a line's octets.
-    fn of_octets(octets: &[u8]) -> Report<'_>
-        ensures { report_seen result ≡ answered (reading octets.now) }
-    {
-        match read(octets) {
+// The report of octets, from what they read as.
+impl<'a> From<Result<Frame<'a>, Fault>> for Report<'a> {
+    ghost from_gives = { λ answer report. report ≡ report_from answer };
+
+    fn from(answer: Result<Frame<'a>, Fault>) -> Report<'a> {
+        match answer {
             Ok(frame) => Report::Sound(frame),
             Err(fault) => Report::Refused(fault),
         }

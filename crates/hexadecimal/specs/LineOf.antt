@@ -1,7 +1,7 @@
 -- What a whole line of a capture is.
-use Rattle.std.specs.Prelude.{ℕ, cond, List, [], ◌∷◌, take, Some, None, Option, ◌==◌}
-use Rattle.hexadecimal.specs.declared.line.reading.Line.{Line}
-use Rattle.hexadecimal.specs.declared.line.reading.Line.TheVariants.{Skipped, NotOctets, Octets}
+use Rattle.std.specs.Prelude.{ℕ, cond, List, [], ◌∷◌, take, Some, None, Option, Ok, Err, Result, ◌==◌}
+use Rattle.std.specs.Borrow.{Bor}
+use Rattle.hexadecimal.specs.declared.line.reading.NotOctets.{NotOctets}
 use Rattle.hexadecimal.specs.Grammar.{octets_in}
 
 -- what a line is: passed over, something else than octets, or these octets
@@ -37,7 +37,7 @@ kept not_octets = not_octets
 kept (these_octets spelled) = these_octets (take 126 spelled)
 
 -- what an answer says, with the list that its slice points to
-abbrev pub seen : Line → LineTold
-seen Skipped = skipped
-seen NotOctets = not_octets
-seen (Octets slice) = these_octets slice.now
+abbrev pub seen : Result (Option (Bor (List ℕ))) NotOctets → LineTold
+seen (Ok None) = skipped
+seen (Ok (Some slice)) = these_octets slice.now
+seen (Err e) = not_octets

@@ -26,7 +26,7 @@ Stands Broken text spelled = (more : List ℕ) → line_of (text ++ more) ≡ no
 
 -- the octets that a reader has kept
 abbrev pub stored : HexLine → List ℕ
-stored line = take line.count line.octets
+stored line = line.octets.items
 
 -- a reader that has read this text stands so, and has kept the text's first 126 octets;
 -- texts that leave it at one place, as two comments, are alike to it from there on

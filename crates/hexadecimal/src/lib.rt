@@ -7,7 +7,7 @@ mod show;
 
 pub use digit::digits;
 pub use line::HexLine;
-pub use line::reading::Line;
+pub use line::reading::NotOctets;
 pub use show::Hex;
 
 #[cfg(test)]

@@ -1,7 +1,7 @@
 // The state of a reader that takes one line of text, a byte at a time.
-ghost use Rattle.std.specs.Prelude.{◌≡◌, ◌≤◌, length};
-
 pub mod reading;
+
+use arrayvec::ArrayVec;
 
 // How many octets of a line are kept: one more than the longest frame has.
 const KEPT: usize = 126;
@@ -29,8 +29,5 @@ enum Progress {
 #[derive(Drop)]
 pub struct HexLine {
     progress: Progress,
-    octets: [u8; KEPT],
-    count: usize,
-    ghost size: { length octets ≡ 126 },
-    ghost within: { count ≤ 126 },
+    octets: ArrayVec<u8, KEPT>,
 }

@@ -20,25 +20,21 @@ fn line_with(text: &[u8]) -> HexLine
 fn reads_as(text: &[u8], expected: &[u8]) -> bool
     ensures { result ≡ true → kept (line_of text.now) ≡ these_octets expected.now }
 {
-    let line = line_with(text);
-    match line.told() {
-        Line::Octets(told) => told == expected,
-        _ => false,
-    }
+    line_with(text).told() == Ok(Some(expected))
 }
 
 // Whether a line with this text is skipped.
 fn is_skipped(text: &[u8]) -> bool
     ensures { result ≡ true → kept (line_of text.now) ≡ skipped }
 {
-    matches!(line_with(text).told(), Line::Skipped)
+    line_with(text).told() == Ok(None)
 }
 
 // Whether a line with this text is something else than octets.
 fn is_not_octets(text: &[u8]) -> bool
     ensures { result ≡ true → kept (line_of text.now) ≡ not_octets }
 {
-    matches!(line_with(text).told(), Line::NotOctets)
+    line_with(text).told() == Err(NotOctets)
 }
 
 #[test]
@@ -78,5 +74,7 @@ fn shown(rt: HostRuntime) -> Result<(), Fail> {
     let some = format!(in rt.alloc(); "{}", Hex(&[0, 255, 0x1b]))?;
     assert_eq!(rt; none.as_str(), "-");
     assert_eq!(rt; some.as_str(), "00ff1b");
+    let refused = format!(in rt.alloc(); "{NotOctets}")?;
+    assert_eq!(rt; refused.as_str(), "not octets");
     Ok(())
 }

@@ -1,22 +1,28 @@
 // What a line of text is, told once its bytes were read.
-ghost use Rattle.std.specs.Prelude.{◌≡◌, ℕ, false, List, [], ◌∷◌, ◌++◌, take, Some, ◌≢◌};
+ghost use Rattle.std.specs.Prelude.{◌≡◌, ℕ, false, List, [], ◌∷◌, ◌++◌, take, Some, ◌≢◌, codes};
 ghost use Rattle.hexadecimal.specs.Grammar.{octets_in};
 ghost use Rattle.hexadecimal.specs.LineOf.{line_of, seen, kept};
 ghost use Rattle.hexadecimal.specs.Reading.{Read, Stands, stored, is_empty};
 
-use super::{HexLine, KEPT, Progress};
+use super::{HexLine, Progress};
 use crate::digit::{octet_of, value_of};
+use arrayvec::ArrayVec;
+use std::error::Error;
+use std::fmt;
 
-// What a line of text is.
-#[derive(Clone, Copy)]
-pub enum Line<'a> {
-    // Empty, or a comment.
-    Skipped,
-    // Something else than octets.
-    NotOctets,
-    // Octets, of which the first 126 are here.
-    Octets(&'a [u8]),
+// A line of text that is something else than octets.
+#[derive(Clone, Copy, Debug, PartialEq, Eq)]
+pub struct NotOctets;
+
+impl fmt::Display for NotOctets {
+    ghost output = { λ _. Some (codes "not octets") };
+
+    fn fmt<W: fmt::Write>(&self, f: &mut fmt::Formatter<W>) -> fmt::Result {
+        f.write_str("not octets")
+    }
 }
+
+impl Error for NotOctets {}
 
 impl HexLine {
     // A line of which nothing was read yet.
@@ -25,8 +31,7 @@ impl HexLine {
     {
         HexLine {
             progress: Progress::Untouched,
-            octets: [0; KEPT],
-            count: 0,
+            octets: ArrayVec::new(),
         }
     }
 
@@ -58,15 +63,14 @@ impl HexLine {
         }
     }
 
-    // What the line is, if it ends here.
-    pub fn told(&self) -> Line<'_>
+    // The first 126 octets of the line, if it ends here, or none where it is skipped: empty, or a comment.
+    pub fn told(&self) -> Result<Option<&[u8]>, NotOctets>
         ensures { (t : List ℕ) → Read self.now t → seen result ≡ kept (line_of t) }
     {
         match self.progress {
-            Progress::Untouched | Progress::LoneReturn => Line::Skipped,
-            Progress::Comment => Line::Skipped,
-            Progress::Whole | Progress::WholeReturn => Line::Octets(&self.octets[0..self.count]),
-            Progress::Half(_) | Progress::Broken => Line::NotOctets,
+            Progress::Untouched | Progress::LoneReturn | Progress::Comment => Ok(None),
+            Progress::Whole | Progress::WholeReturn => Ok(Some(self.octets.as_slice())),
+            Progress::Half(_) | Progress::Broken => Err(NotOctets),
         }
     }
 
@@ -75,9 +79,8 @@ impl HexLine {
         ensures stores { stored self.new ≡ take 126 (stored self.old ++ octet ∷ []) }
         ensures same { self.new.progress ≡ self.old.progress }
     {
-        if self.count < KEPT {
-            self.octets[self.count] = octet;
-            self.count += 1;
+        if !self.octets.is_full() {
+            self.octets.push(octet);
         }
     }
 }

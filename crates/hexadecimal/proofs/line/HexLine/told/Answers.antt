@@ -1,18 +1,22 @@
 -- What a line is follows from the place where its reader stands.
-use Rattle.std.proofs.Common.{◌≡◌, ◌-◌, take, ap, ◌∙◌, inl, inr, arith}
-use Rattle.hexadecimal.specs.declared.line.Progress.TheVariants.{Comment, Whole, Half, WholeReturn, Broken}
+use Rattle.std.proofs.Common.{ap, ◌∙◌, inl, inr}
+use Rattle.hexadecimal.specs.declared.line.Progress.TheVariants.{Untouched, Comment, Whole, Half, LoneReturn, WholeReturn, Broken}
 use Rattle.hexadecimal.specs.LineOf.{these_octets}
 use Rattle.hexadecimal.proofs.Telling.{told_there}
 use Rattle.hexadecimal.proofs.line.HexLine.told.Goals as goal
 
-pub returns-in-Comment : goal.returns-in-Comment
-returns-in-Comment c t h = told_there c.args.self.now t h Comment c.in-Comment.is
+pub returns-in-Untouched : goal.returns-in-Untouched
+returns-in-Untouched c t h =
+    let line = c.args.self.now in
+    elim c.in-Untouched.is [
+      | inl e ↦ told_there line t h Untouched e
+      | inr r ↦ elim r [ inl e ↦ told_there line t h LoneReturn e | inr e ↦ told_there line t h Comment e ]
+    ]
 
 pub returns-in-Whole : goal.returns-in-Whole
 returns-in-Whole c t h =
     let line = c.args.self.now in
-    let all : line.count - 0 ≡ line.count = omega arith in
-    ap (λ n. these_octets (take n line.octets)) all ∙ ap these_octets h.keeps ∙
+    ap these_octets (c.as_slice.ensures.value ∙ h.keeps) ∙
     elim c.in-Whole.is [ inl e ↦ told_there line t h Whole e | inr e ↦ told_there line t h WholeReturn e ]
 
 pub returns-in-Half : goal.returns-in-Half
