@@ -84,15 +84,8 @@ impl Console {
             Request::Listed(numbers) => self.start(numbers),
             Request::Grant(grant) => self.add(grant),
             Request::Plan => self.make_listed(reply),
-            Request::Even {
-                numbers,
-                count,
-                width,
-                address,
-                simple,
-            } => {
-                let plan = EvenPlan::new(numbers, count, width, address, simple)?;
-                self.accept(AnyPlan::Even(plan), reply)
+            Request::Even { numbers, grants } => {
+                self.accept(AnyPlan::Even(EvenPlan::new(numbers, grants)?), reply)
             }
             Request::Timetable => timetable(self.plan()?, reply),
             Request::Holder(t) => holder(self.plan()?, t, reply),

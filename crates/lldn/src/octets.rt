@@ -8,15 +8,16 @@ pub struct Octets(HexLine);
 impl Octets {
     // The octets, or none where the line is something else.
     pub fn of(line: HexLine) -> Option<Octets> {
-        match line.told() {
-            hexadecimal::Line::NotOctets => None,
-            _ => Some(Octets(line)),
+        if line.told().is_ok() {
+            Some(Octets(line))
+        } else {
+            None
         }
     }
 
     pub fn as_slice(&self) -> &[u8] {
         match self.0.told() {
-            hexadecimal::Line::Octets(octets) => octets,
+            Ok(Some(octets)) => octets,
             _ => &[],
         }
     }

@@ -5,7 +5,7 @@ use crate::octets::Octets;
 use crate::orders::{Order, order_in};
 use crate::stops::Obstacle;
 use crate::words::Words;
-use plan::{Grant, Numbers};
+use plan::{EvenGrants, Grant, Numbers};
 use std::str::from_utf8;
 
 // A command of the script.
@@ -20,10 +20,7 @@ pub enum Request<'a> {
     // Makes an even plan.
     Even {
         numbers: Numbers,
-        count: usize,
-        width: u8,
-        address: u64,
-        simple: u8,
+        grants: EvenGrants,
     },
     // Prints the timetable of the plan.
     Timetable,
@@ -74,7 +71,10 @@ fn request_in<'a>(words: &mut Words<'a>, command: &str) -> Option<Request<'a>> {
         "listed" => Some(Request::Listed(numbers(words)?)),
         "grant" => Some(Request::Grant(grant(words)?)),
         "plan" => Some(Request::Plan),
-        "even" => even(words),
+        "even" => Some(Request::Even {
+            numbers: numbers(words)?,
+            grants: even_grants(words)?,
+        }),
         "timetable" => Some(Request::Timetable),
         "holder" => Some(Request::Holder(words.number()?)),
         "repeats" => Some(Request::Repeats(words.octets()?)),
@@ -113,10 +113,9 @@ fn grant(words: &mut Words<'_>) -> Option<Grant> {
     })
 }
 
-// An even plan.
-fn even<'a>(words: &mut Words<'a>) -> Option<Request<'a>> {
-    Some(Request::Even {
-        numbers: numbers(words)?,
+// The grants of an even plan.
+fn even_grants(words: &mut Words<'_>) -> Option<EvenGrants> {
+    Some(EvenGrants {
         count: words.number()?,
         width: words.number()?,
         address: words.address()?,

@@ -1,2 +1,3 @@
 pub mod Evenly
 pub mod Lawful
+pub mod Searched

@@ -1,6 +1,6 @@
 -- The least number that passes a test.
 use Rattle.std.specs.Prelude.{◌≡◌, ℕ, zero, suc, ◌+◌, ◌<◌, ◌≤◌, Bool, true, false, cond, Some, None, Option, refl}
-use Rattle.std.proofs.Common.{ap, inl, inr, arith}
+use Rattle.std.proofs.Common.{ap, ◌∙◌, inl, inr, arith}
 use Rattle.std.specs.Option.{option_or}
 use Rattle.std.proofs.lemmas.Bool.{both_ways, cases_eq, cases_order}
 use Rattle.plan.specs.Answers.{first_of}
@@ -42,3 +42,10 @@ first_found p n k h below e = first_is p n (Some (k + 1)) (omega arith, omega ar
 
 pub first_none : (p : ℕ → Bool) (n k : ℕ) → ((i : ℕ) → 1 ≤ i → i ≤ k → p i ≡ false) → n ≤ k → first_of p n ≡ None
 first_none p n k h past = first_is p n None (λ i low high. h i low (omega arith))
+
+-- tests that agree on the numbers 1 to n have one least number that passes
+pub first_alike : (p q : ℕ → Bool) (n : ℕ) → ((i : ℕ) → 1 ≤ i → i ≤ n → p i ≡ q i) → first_of p n ≡ first_of q n
+first_alike p q zero same = refl
+first_alike p q (suc n) same =
+    let before = first_alike p q n (λ i low high. same i low (omega arith)) in
+    ap (λ o. option_or o (cond (p (suc n)) (Some (suc n)) None)) before ∙ ap (λ b. option_or (first_of q n) (cond b (Some (suc n)) None)) (same (suc n) (omega arith) (omega arith))

@@ -152,7 +152,7 @@ verdict_frame m broken =
       | inr e ↦ cond-false _ _ _ e
     ]
 
-framed_verdict : (m : PlanMeaning) (o : Option ℕ) → Framed m → first_of (breaking m) (count_of m) ≡ o → verdict m ≡ option_map (fault refusal.Plan) o
+pub framed_verdict : (m : PlanMeaning) (o : Option ℕ) → Framed m → first_of (breaking m) (count_of m) ≡ o → verdict m ≡ option_map (fault refusal.Plan) o
 unfolding verdict
 framed_verdict m o framed e = cond-true _ _ _ (framed_tested m framed) ∙ ap (option_map (fault refusal.Plan)) e
 

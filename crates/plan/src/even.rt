@@ -5,21 +5,16 @@ ghost use Rattle.plan.specs.Rules.{count_of};
 ghost use Rattle.plan.specs.Verdicts.{verdict};
 
 use super::grant::Numbers;
+use grants::EvenGrants;
 
-// A plan that holds no table: its grants stand right behind the retransmission timeslots, one behind the other,
-// with equal widths and with addresses that count up. All rules hold of it.
+// A plan that holds no table: its grants follow one another evenly. All rules hold of it.
 #[derive(Clone, Copy)]
 pub struct EvenPlan {
     numbers: Numbers,
-    // How many grants there are.
-    count: usize,
-    // The width of each.
-    width: u8,
-    // The full and the simple address of the first.
-    address: u64,
-    simple: u8,
-    ghost counted: { count_of (even_plan numbers count width address simple) ≡ count },
-    ghost lawful: { is_some (verdict (even_plan numbers count width address simple)) ≡ false },
+    grants: EvenGrants,
+    ghost counted: { count_of (even_plan numbers grants.count grants.width grants.address grants.simple) ≡ grants.count },
+    ghost lawful: { is_some (verdict (even_plan numbers grants.count grants.width grants.address grants.simple)) ≡ false },
 }
 
+pub mod grants;
 pub mod making;

@@ -11,6 +11,7 @@ mod tests;
 
 pub use asking::{answer_alike, grant_holding, grant_with_address};
 pub use even::EvenPlan;
+pub use even::grants::EvenGrants;
 pub use grant::{Grant, Numbers};
 pub use listed::ListedPlan;
 pub use slots::SlotPlan;

@@ -35,6 +35,16 @@ fn six() -> [Grant; 6] {
     ]
 }
 
+// As many grants of one timeslot each, by the addresses that count up from 16 and 1.
+const fn from_sixteen(count: usize) -> EvenGrants {
+    EvenGrants {
+        count,
+        width: 1,
+        address: 16,
+        simple: 1,
+    }
+}
+
 // The place at which a list is refused.
 fn refused_at(rt: HostRuntime, numbers: Numbers, grants: [Grant; 6]) -> Result<usize, Fail> {
     match ListedPlan::new(numbers, grants.to_vec(rt.alloc())?) {
@@ -80,16 +90,16 @@ fn broken_rules_are_refused(rt: HostRuntime) -> Result<(), Fail> {
 #[test]
 fn an_even_plan_is_like_the_list(rt: HostRuntime) -> Result<(), Fail> {
     let listed = ListedPlan::new(NUMBERS, six().to_vec(rt.alloc())?)?;
-    let even = EvenPlan::new(NUMBERS, 6, 1, 16, 1)?;
+    let even = EvenPlan::new(NUMBERS, from_sixteen(6))?;
     for k in 0..10 {
         assert!(rt; answer_alike(&listed, &even, k, k as u8));
     }
     assert_eq!(rt;
-        EvenPlan::new(NUMBERS, 7, 1, 16, 1).err(),
+        EvenPlan::new(NUMBERS, from_sixteen(7)).err(),
         Some(Refusal::Plan.at(7))
     );
     assert_eq!(rt;
-        EvenPlan::new(NUMBERS, 129, 1, 16, 1).err(),
+        EvenPlan::new(NUMBERS, from_sixteen(129)).err(),
         Some(Refusal::Plan.at(0))
     );
     Ok(())

@@ -1,6 +1,6 @@
 // Known cases.
 use super::*;
-use plan::{EvenPlan, Grant, Numbers};
+use plan::{EvenGrants, EvenPlan, Grant, Numbers};
 use std::test::Fail;
 
 // Eight base timeslots, all uplink, of which the first few are for retransmission.
@@ -49,7 +49,13 @@ fn wide_grants_repeat_whole(rt: HostRuntime) {
 #[test]
 fn both_ends_agree(rt: HostRuntime) -> Result<(), Fail> {
     let numbers = eight(2);
-    let plan = EvenPlan::new(numbers, 6, 1, 100, 1)?;
+    let grants = EvenGrants {
+        count: 6,
+        width: 1,
+        address: 100,
+        simple: 1,
+    };
+    let plan = EvenPlan::new(numbers, grants)?;
     let three = marked(no_bits(), numbers, grant(3, 1));
     let five = marked(three, numbers, grant(5, 1));
     let bitmap = marked(five, numbers, grant(8, 1));

@@ -1,7 +1,7 @@
 use Rattle.std.proofs.Common.{◌≡◌, Some, None, Option, sym, ap, ◌∙◌, inl, inr, arith, MatchOption}
 use Rattle.plan.specs.declared.grant.Grant.{Grant}
 use Rattle.plan.specs.EvenPlans.{even_meaning}
-use Rattle.plan.proofs.Evenly.{even_count, even_at, even_keeps, even_few}
+use Rattle.plan.proofs.Evenly.{even_count, even_at, even_keeps}
 use Rattle.plan.specs.Judged.{lawful}
 use Rattle.plan.specs.Numbered.{no_grant_at}
 use Rattle.plan.proofs.even.making.EvenPlanSlotPlan.grant.Goals as goal
@@ -10,18 +10,12 @@ use Rattle.plan.proofs.even.making.EvenPlanSlotPlan.grant.Goals.{then-i-eq0-via-
 pub returns-then-i-eq0 : goal.returns-then-i-eq0
 returns-then-i-eq0 c =
     let p = c.args.self.now in
-    let n = even_count p.numbers p.count p.width p.address p.simple in
+    let n = even_count p.numbers p.grants in
     sym (no_grant_at (even_meaning p) c.args.i
     (elim c.then-i-eq0.branch [
       | then-i-eq0-via-then-i-eq0 w ↦ inl (omega arith)
       | then-i-eq0-via-else-i-eq0+then-i-self w ↦ inr (omega arith)
     ]))
-
-pub grant_of-requires : goal.grant_of-requires
-grant_of-requires c =
-    let p = c.args.self.now in
-    let few = even_few p.numbers p.count p.width p.address p.simple (lawful (even_meaning p) p.lawful) in
-    (omega arith, omega arith)
 
 -- a grant that keeps its rules is made
 there : (o : Option Grant) (g : Grant) (P : Type 0) → P → MatchOption o (P → ⊥) (λ h. h ≡ g) → o ≡ Some g
@@ -32,5 +26,5 @@ pub returns : goal.returns
 returns c =
     let p = c.args.self.now in
     let rules = lawful (even_meaning p) p.lawful in
-    there _ _ _ (even_keeps p.numbers p.count p.width p.address p.simple rules c.args.i (omega arith) (omega arith)) c.grant_of.ensures
-    ∙ sym (even_at p.numbers p.count p.width p.address p.simple c.args.i (omega arith) (omega arith))
+    there _ _ _ (even_keeps p.numbers p.grants rules c.args.i (omega arith) (omega arith)) c.grant.ensures
+    ∙ sym (even_at p.numbers p.grants c.args.i (omega arith) (omega arith))

@@ -1,34 +1,40 @@
-use Rattle.std.proofs.Common.{ℕ, ◌+◌, ◌≤◌, Some, sym, ap, ◌∙◌, arith}
-use Rattle.plan.specs.declared.even.EvenPlan.{EvenPlan}
+use Rattle.std.proofs.Common.{◌≡◌, ℕ, ◌-◌, ◌/◌, ◌<◌, sym, ap, ◌∙◌, inl, inr, arith}
+use Rattle.std.proofs.lemmas.Bool.{cases_lt}
 use Rattle.plan.specs.EvenPlans.{even_meaning}
-use Rattle.plan.proofs.Evenly.{even_keeps, held_in_none, held_by_none, held_by, held_past}
 use Rattle.plan.specs.Judged.{lawful}
+use Rattle.plan.specs.declared.even.EvenPlan.{EvenPlan}
+use Rattle.plan.proofs.Evenly.{even_keeps, held_in_none, held_by_none, held_where}
 use Rattle.plan.proofs.even.making.EvenPlanSlotPlan.holder.Goals as goal
-use Rattle.plan.proofs.even.making.EvenPlanSlotPlan.holder.Goals.{then-self-eq0-via-then-self-eq0, then-self-eq0-via-else-self-eq0+then-t-self}
 
--- where there is a grant, it has timeslots
-wide : (p : EvenPlan) → 1 ≤ p.count → 1 ≤ p.width
-wide p some = (even_keeps p.numbers p.count p.width p.address p.simple (lawful (even_meaning p) p.lawful) 1 (omega arith) some).width
-
-pub returns-then-self-eq0 : goal.returns-then-self-eq0
-returns-then-self-eq0 c =
+pub returns-in_err-checked_sub : goal.returns-in_err-checked_sub
+returns-in_err-checked_sub c =
     let p = c.args.self.now in
-    elim c.then-self-eq0.branch [
-      | then-self-eq0-via-then-self-eq0 w ↦ sym (held_in_none p.numbers p.count p.width p.address p.simple c.args.t (omega arith))
-      | then-self-eq0-via-else-self-eq0+then-t-self w ↦ sym (held_by_none p.numbers p.count p.width p.address p.simple c.args.t (omega arith))
-    ]
+    c.from_residual.ensures ∙ sym (held_by_none p.numbers p.grants c.args.t (omega arith))
 
-pub widths_before-before-requires : goal.widths_before-before-requires
-widths_before-before-requires c = (omega arith, wide c.args.self.now (omega arith))
-
-pub returns-then-before-self : goal.returns-then-before-self
-returns-then-before-self c =
+pub returns-in_err-behind : goal.returns-in_err-behind
+returns-in_err-behind c =
     let p = c.args.self.now in
-    let e = c.widths_before-before.ensures in
-    ap (λ (k : ℕ). Some (k + 1)) e ∙ sym (held_by p.numbers p.count p.width p.address p.simple c.args.t (wide p (omega arith)) (omega arith) (omega arith))
+    c.from_residual-in_err-behind.ensures ∙ sym (held_by_none p.numbers p.grants c.args.t (omega arith))
 
-pub returns-else-before-self : goal.returns-else-before-self
-returns-else-before-self c =
+-- grants without timeslots break a rule, so that there is none
+narrow : (p : EvenPlan) → (0 < p.grants.width → ⊥) → p.grants.count ≡ 0
+narrow p none = elim (cases_lt 0 p.grants.count) [
+  | inl some ↦
+      let k = (even_keeps p.numbers p.grants (lawful (even_meaning p) p.lawful) 1 (omega arith) some).width in
+      absurd (none k)
+  | inr few ↦ omega arith
+]
+
+pub returns-in_err-checked_div : goal.returns-in_err-checked_div
+returns-in_err-checked_div c =
     let p = c.args.self.now in
-    let e = c.widths_before-before.ensures in
-    sym (held_past p.numbers p.count p.width p.address p.simple c.args.t (wide p (omega arith)) (omega arith) (omega arith))
+    let few = narrow p c.in_err-checked_div.ensures in
+    c.from_residual-in_err-checked_div.ensures ∙ sym (held_in_none p.numbers p.grants c.args.t few)
+
+pub returns : goal.returns
+returns c =
+    let p = c.args.self.now in
+    let behind : c.in_ok-behind.behind ≡ c.args.t - p.numbers.retransmission - 1 = omega (arith, c.in_ok-checked_sub.ensures, c.in_ok-behind.ensures) in
+    let wide = c.in_ok-checked_div.ensures in
+    let before = c.from-before.ensures ∙ wide.1 ∙ ap (λ (n : ℕ). n / p.grants.width) behind in
+    c.then_some.ensures ∙ held_where p.numbers p.grants c.args.t wide.0 (omega (arith, c.in_ok-checked_sub.ensures, c.in_ok-behind.ensures)) c.from-before.result before
