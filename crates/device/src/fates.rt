@@ -8,7 +8,7 @@ use crate::hearing::Beacon;
 use crate::rules::{grant_in, numbers_in};
 use crate::state::{Fate, News, Repeat};
 use frame::{BeaconState, Configuration};
-use repeats::{is_set, repeat_start};
+use repeats::GroupAcknowledgment;
 
 // What a beacon tells of its superframe.
 pub(crate) fn news_of(beacon: Beacon<'_>) -> News
@@ -29,11 +29,11 @@ pub(crate) fn repeat_by(
     ensures { result ≡ repeat_by address configuration (heard beacon.entry) }
 {
     match beacon.state {
-        BeaconState::Online { bitmap, .. } => repeat_start(
-            bitmap.octets,
-            numbers_in(configuration),
-            grant_in(address, configuration),
-        ),
+        BeaconState::Online { bitmap, .. } => GroupAcknowledgment {
+            numbers: numbers_in(configuration),
+            octets: bitmap.octets,
+        }
+        .repeat_start(grant_in(address, configuration)),
         _ => None,
     }
 }
@@ -54,11 +54,11 @@ pub(crate) fn fate_by(address: u64, configuration: Configuration, beacon: Beacon
 {
     match beacon.state {
         BeaconState::Online { bitmap, .. } => {
-            if is_set(
-                bitmap.octets,
-                numbers_in(configuration),
-                configuration.first,
-            ) {
+            let acknowledgment = GroupAcknowledgment {
+                numbers: numbers_in(configuration),
+                octets: bitmap.octets,
+            };
+            if acknowledgment.is_set(configuration.first) {
                 Fate::Confirmed
             } else {
                 by_room(repeat_by(address, configuration, beacon))

@@ -7,7 +7,7 @@ ghost use Rattle.device.specs.Views.{heard, heard_in};
 use crate::rules::numbers_in;
 use frame::{BeaconHeader, BeaconState, Configuration, Fault, Frame, Refusal};
 use plan::Numbers;
-use repeats::fits;
+use repeats::GroupAcknowledgment;
 
 // A beacon, which borrows from the received octets.
 #[derive(Clone, Copy)]
@@ -30,7 +30,7 @@ fn as_beacon(frame: Frame<'_>) -> Result<Beacon<'_>, Fault>
 fn bitmap_fits(octets: &[u8], numbers: Numbers) -> bool
     ensures { result ≡ bitmap_fits numbers octets.now }
 {
-    fits(octets, numbers)
+    GroupAcknowledgment { numbers, octets }.fits()
 }
 
 // Whether a beacon agrees with a configuration: only an Online one can differ.

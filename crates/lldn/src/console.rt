@@ -10,7 +10,7 @@ use crate::requests::Request;
 use crate::stops::{Obstacle, Stop};
 use crate::timetables::{holder, timetable};
 use plan::{EvenPlan, Grant, ListedPlan, Numbers, SlotPlan};
-use repeats::fits;
+use repeats::GroupAcknowledgment;
 use std::alloc::Global;
 use std::io;
 
@@ -143,11 +143,13 @@ impl Console {
     // Tells who repeats where by a bitmap, and keeps it if it fits.
     fn repeat(&mut self, octets: &[u8], reply: &mut Reply<'_>) -> Result<(), Stop> {
         let accepted = self.accepted.as_mut().ok_or(Obstacle::NoPlan)?;
-        if !fits(octets, accepted.plan.numbers()) {
+        let numbers = accepted.plan.numbers();
+        let bitmap = GroupAcknowledgment { numbers, octets };
+        if !bitmap.fits() {
             return Err(Obstacle::Misfit.into());
         }
         accepted.bitmap = Some(octets.to_vec(self.heap)?);
-        repeats(&accepted.plan, octets, reply)
+        repeats(&accepted.plan, bitmap, reply)
     }
 
     // Tells whose frame starts at a timeslot by the bitmap that was kept.

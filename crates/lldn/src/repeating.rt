@@ -3,8 +3,8 @@ use crate::plans::{AnyPlan, last};
 use crate::reply::Reply;
 use crate::stops::Stop;
 use frame::Direction;
-use plan::{Grant, Numbers, SlotPlan};
-use repeats::{is_set, repeat_start, sender};
+use plan::{Grant, SlotPlan};
+use repeats::{GroupAcknowledgment, sender};
 use std::fmt;
 
 // What becomes of a grant's frame by a bitmap.
@@ -28,12 +28,15 @@ impl fmt::Display for Outcome {
 }
 
 // Tells what becomes of each grant by a bitmap.
-pub fn repeats(plan: &AnyPlan, octets: &[u8], reply: &mut Reply<'_>) -> Result<(), Stop> {
-    let numbers = plan.numbers();
+pub fn repeats(
+    plan: &AnyPlan,
+    bitmap: GroupAcknowledgment<'_>,
+    reply: &mut Reply<'_>,
+) -> Result<(), Stop> {
     for before in 0..plan.count() {
         let i = before + 1;
         if let Some(grant) = plan.grant(i) {
-            let outcome = outcome_of(numbers, grant, octets);
+            let outcome = outcome_of(bitmap, grant);
             reply.line(format_args!("grant {i} {outcome}"))?;
         }
     }
@@ -41,13 +44,13 @@ pub fn repeats(plan: &AnyPlan, octets: &[u8], reply: &mut Reply<'_>) -> Result<(
 }
 
 // What becomes of one grant.
-fn outcome_of(numbers: Numbers, grant: Grant, octets: &[u8]) -> Outcome {
-    if is_set(octets, numbers, grant.first) {
+fn outcome_of(bitmap: GroupAcknowledgment<'_>, grant: Grant) -> Outcome {
+    if bitmap.is_set(grant.first) {
         return Outcome::Acknowledged;
     }
     match (
-        repeat_start(octets, numbers, grant),
-        grant.direction(numbers),
+        bitmap.repeat_start(grant),
+        grant.direction(bitmap.numbers),
     ) {
         (Some(first), _) => Outcome::Repeats {
             first,

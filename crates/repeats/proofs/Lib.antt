@@ -4,3 +4,4 @@ pub mod Starting
 pub mod Serving
 pub mod Alike
 pub mod Sending
+pub mod Ranges

@@ -8,6 +8,13 @@ use plan::{Grant, Numbers};
 // A coordinator's bitmap, with room for every plan.
 pub type Bitmap = [u8; 32];
 
+// A group acknowledgment: octets of a bitmap, a whole one or a beacon's part, and the numbers that say whose each bit is.
+#[derive(Clone, Copy)]
+pub struct GroupAcknowledgment<'a> {
+    pub numbers: Numbers,
+    pub octets: &'a [u8],
+}
+
 // The bitmap in which nothing is acknowledged.
 pub fn no_bits() -> Bitmap
     ensures { result ≡ nothing_heard }
@@ -24,8 +31,9 @@ pub fn marked(bitmap: Bitmap, numbers: Numbers, grant: Grant) -> Bitmap
     ensures alike { StaysAlike numbers bitmap grant result }
 {
     let mut marked = bitmap;
-    for before in 0..grant.width {
-        mark_timeslot(&mut marked, numbers, grant.first as u16 + before as u16);
+    let first = u16::from(grant.first);
+    for t in first..first + u16::from(grant.width) {
+        mark_timeslot(&mut marked, numbers, t);
     }
     marked
 }
@@ -34,48 +42,49 @@ pub fn marked(bitmap: Bitmap, numbers: Numbers, grant: Grant) -> Bitmap
 fn mark_timeslot(bitmap: &mut [u8], numbers: Numbers, t: u16)
     ensures { bitmap.new ≡ with_timeslot numbers bitmap.old t }
 {
-    if t <= numbers.retransmission as u16 {
+    let last = u16::from(numbers.retransmission);
+    if t <= last {
         return;
     }
-    let place = (t - numbers.retransmission as u16 - 1) as usize;
+    let place = usize::from(t - last - 1);
     if place / 8 < bitmap.len() {
         bitmap[place / 8] |= 1 << (place % 8);
     }
 }
 
-// Whether timeslot t is acknowledged. One up to R, or past the octets' end, is not.
-pub fn is_set(octets: &[u8], numbers: Numbers, t: u8) -> bool
-    ensures { result ≡ acknowledged numbers octets.now t }
-{
-    t > numbers.retransmission && bit_is_set(octets, (t - numbers.retransmission - 1) as usize)
-}
-
-// Whether timeslot t has a bit, and the bit is zero.
-pub(crate) fn is_missed(octets: &[u8], numbers: Numbers, t: u8) -> bool
-    ensures { result ≡ missed numbers octets.now t }
-{
-    t > numbers.retransmission && !is_set(octets, numbers, t)
-}
-
-// Whether bit k is one. Past the end it is not.
-fn bit_is_set(octets: &[u8], k: usize) -> bool
-    ensures { result ≡ (bit octets.now k == 1) }
-{
-    k / 8 < octets.len() && (octets[k / 8] >> (k % 8)) % 2 == 1
-}
-
-// Whether octets are as many as the bitmap of a beacon has, with every padding bit zero.
-pub fn fits(octets: &[u8], numbers: Numbers) -> bool
-    ensures { Decides result (Fits numbers octets.now) }
-{
-    if octets.len() != numbers.bitmap_octets() {
-        return false;
+impl GroupAcknowledgment<'_> {
+    // Whether timeslot t is acknowledged. One up to R, or past the octets' end, is not.
+    pub fn is_set(self, t: u8) -> bool
+        ensures { result ≡ acknowledged self.entry.numbers self.entry.octets.now t }
+    {
+        t > self.numbers.retransmission
+            && self.bit_is_set(usize::from(t - self.numbers.retransmission - 1))
     }
-    let bits = numbers.timeslots.saturating_sub(numbers.retransmission) as usize;
-    for k in bits..octets.len() * 8 {
-        if bit_is_set(octets, k) {
-            return false;
-        }
+
+    // Whether timeslot t has a bit, and the bit is zero.
+    pub(crate) fn is_missed(self, t: u8) -> bool
+        ensures { result ≡ missed self.entry.numbers self.entry.octets.now t }
+    {
+        t > self.numbers.retransmission && !self.is_set(t)
     }
-    true
+
+    // Whether bit k is one. Past the end it is not.
+    fn bit_is_set(self, k: usize) -> bool
+        ensures { result ≡ (bit self.entry.octets.now k == 1) }
+    {
+        k / 8 < self.octets.len() && (self.octets[k / 8] >> (k % 8)) % 2 == 1
+    }
+
+    // Whether the octets are as many as the bitmap of a beacon has, with every padding bit zero.
+    pub fn fits(self) -> bool
+        ensures { Decides result (Fits self.entry.numbers self.entry.octets.now) }
+    {
+        let bits = usize::from(
+            self.numbers
+                .timeslots
+                .saturating_sub(self.numbers.retransmission),
+        );
+        self.octets.len() == self.numbers.bitmap_octets()
+            && (bits..self.octets.len() * 8).all(|k| !self.bit_is_set(k))
+    }
 }

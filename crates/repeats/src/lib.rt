@@ -6,5 +6,5 @@ mod starts;
 #[cfg(test)]
 mod tests;
 
-pub use bitmap::{Bitmap, fits, is_set, marked, no_bits};
-pub use starts::{repeat_start, repeater, sender};
+pub use bitmap::{Bitmap, GroupAcknowledgment, marked, no_bits};
+pub use starts::{repeater, sender};

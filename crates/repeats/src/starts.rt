@@ -3,7 +3,7 @@ ghost use Rattle.std.specs.Prelude.{◌≡◌};
 ghost use Rattle.repeats.specs.Laws.{BitsAlike, NamesRepeater, NamesSender, RepeatsApart, RepeatsWithin, ServedInOrder};
 ghost use Rattle.repeats.specs.Starts.{zeros, may_repeat, wants_repeat, has_room, repeat_start, starts_at, for_retransmission, repeater_at, beginner_at, sender_at};
 
-use super::bitmap::is_missed;
+use super::bitmap::GroupAcknowledgment;
 use frame::Direction;
 use plan::{Grant, Numbers, SlotPlan};
 
@@ -11,61 +11,48 @@ use plan::{Grant, Numbers, SlotPlan};
 fn may_repeat(numbers: Numbers, grant: Grant) -> bool
     ensures { result ≡ may_repeat numbers grant }
 {
-    match grant.direction(numbers) {
-        Direction::Uplink => true,
-        Direction::Bidirectional => false,
-    }
-}
-
-// How many bits are zero of the timeslots above R and before t, whoever owns them.
-fn zeros_before(octets: &[u8], numbers: Numbers, t: u8) -> u8
-    ensures { result ≡ zeros numbers octets.now t }
-{
-    let mut zeros = 0;
-    for earlier in 0..t {
-        if is_missed(octets, numbers, earlier) {
-            zeros += 1;
-        }
-    }
-    zeros
-}
-
-// Whether a grant is to repeat: it may, and its bit is zero.
-fn wants_repeat(octets: &[u8], numbers: Numbers, grant: Grant) -> bool
-    ensures { result ≡ wants_repeat numbers octets.now grant }
-{
-    may_repeat(numbers, grant) && is_missed(octets, numbers, grant.first)
+    grant.direction(numbers) == Direction::Uplink
 }
 
 // Whether the timeslots for retransmission have room for a repeat behind others.
 fn has_room(numbers: Numbers, before: u8, width: u8) -> bool
     ensures { result ≡ has_room numbers before width }
 {
-    before as u16 + width as u16 <= numbers.retransmission as u16
+    u16::from(before) + u16::from(width) <= u16::from(numbers.retransmission)
 }
 
-// The first timeslot of the grant's repeat, or none.
-pub fn repeat_start(octets: &[u8], numbers: Numbers, grant: Grant) -> Option<u8>
-    ensures { result ≡ repeat_start numbers octets.now grant }
-{
-    if !wants_repeat(octets, numbers, grant) {
-        return None;
+impl GroupAcknowledgment<'_> {
+    // How many bits are zero of the timeslots above R and before t, whoever owns them.
+    fn zeros_before(self, t: u8) -> u8
+        ensures { result ≡ zeros self.entry.numbers self.entry.octets.now t }
+    {
+        (0..t).filter(|&earlier| self.is_missed(earlier)).count() as u8
     }
-    let before = zeros_before(octets, numbers, grant.first);
-    if has_room(numbers, before, grant.width) {
-        Some(before + 1)
-    } else {
-        None
-    }
-}
 
-// Whether the grant's repeat starts at timeslot t.
-fn repeats_from(octets: &[u8], numbers: Numbers, grant: Grant, t: u8) -> bool
-    ensures { result ≡ starts_at t (repeat_start numbers octets.now grant) }
-{
-    match repeat_start(octets, numbers, grant) {
-        Some(start) => start == t,
-        None => false,
+    // Whether a grant is to repeat: it may, and its bit is zero.
+    fn wants_repeat(self, grant: Grant) -> bool
+        ensures { result ≡ wants_repeat self.entry.numbers self.entry.octets.now grant }
+    {
+        may_repeat(self.numbers, grant) && self.is_missed(grant.first)
+    }
+
+    // The first timeslot of the grant's repeat, or none.
+    #[tactic(auto, unfolding(crate::specs::Starts::repeat_start))]
+    pub fn repeat_start(self, grant: Grant) -> Option<u8>
+        ensures { result ≡ repeat_start self.entry.numbers self.entry.octets.now grant }
+    {
+        if !self.wants_repeat(grant) {
+            return None;
+        }
+        let before = self.zeros_before(grant.first);
+        has_room(self.numbers, before, grant.width).then_some(before + 1)
+    }
+
+    // Whether the grant's repeat starts at timeslot t.
+    fn repeats_from(self, grant: Grant, t: u8) -> bool
+        ensures { result ≡ starts_at t (repeat_start self.entry.numbers self.entry.octets.now grant) }
+    {
+        self.repeat_start(grant) == Some(t)
     }
 }
 
@@ -77,10 +64,13 @@ pub fn repeater<P: SlotPlan>(plan: &P, octets: &[u8], t: u8) -> Option<usize>
     ensures within { RepeatsWithin (P.SlotPlan.meaning plan.now) octets.now }
     ensures order { BitsAlike (P.SlotPlan.meaning plan.now) octets.now → ServedInOrder (P.SlotPlan.meaning plan.now) octets.now }
 {
-    let numbers = plan.numbers();
+    let acknowledgment = GroupAcknowledgment {
+        numbers: plan.numbers(),
+        octets,
+    };
     for before in 0..plan.count() {
         if let Some(grant) = plan.grant(before + 1) {
-            if repeats_from(octets, numbers, grant, t) {
+            if acknowledgment.repeats_from(grant, t) {
                 return Some(before + 1);
             }
         }

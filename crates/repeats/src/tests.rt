@@ -28,22 +28,26 @@ fn grant(first: u8, width: u8) -> Grant {
 
 #[test]
 fn zeros_are_served_until_the_timeslots_run_out(rt: HostRuntime) {
-    let bitmap = [0x25];
-    let numbers = eight(2);
-    assert!(rt; fits(&bitmap, numbers));
-    assert_eq!(rt; repeat_start(&bitmap, numbers, grant(3, 1)), None);
-    assert_eq!(rt; repeat_start(&bitmap, numbers, grant(4, 1)), Some(1));
-    assert_eq!(rt; repeat_start(&bitmap, numbers, grant(6, 1)), Some(2));
-    assert_eq!(rt; repeat_start(&bitmap, numbers, grant(7, 1)), None);
+    let acknowledgment = GroupAcknowledgment {
+        numbers: eight(2),
+        octets: &[0x25],
+    };
+    assert!(rt; acknowledgment.fits());
+    assert_eq!(rt; acknowledgment.repeat_start(grant(3, 1)), None);
+    assert_eq!(rt; acknowledgment.repeat_start(grant(4, 1)), Some(1));
+    assert_eq!(rt; acknowledgment.repeat_start(grant(6, 1)), Some(2));
+    assert_eq!(rt; acknowledgment.repeat_start(grant(7, 1)), None);
 }
 
 #[test]
 fn wide_grants_repeat_whole(rt: HostRuntime) {
-    let bitmap = no_bits();
-    let numbers = eight(3);
-    assert_eq!(rt; repeat_start(&bitmap, numbers, grant(4, 2)), Some(1));
-    assert_eq!(rt; repeat_start(&bitmap, numbers, grant(6, 1)), Some(3));
-    assert_eq!(rt; repeat_start(&bitmap, numbers, grant(7, 2)), None);
+    let acknowledgment = GroupAcknowledgment {
+        numbers: eight(3),
+        octets: &no_bits(),
+    };
+    assert_eq!(rt; acknowledgment.repeat_start(grant(4, 2)), Some(1));
+    assert_eq!(rt; acknowledgment.repeat_start(grant(6, 1)), Some(3));
+    assert_eq!(rt; acknowledgment.repeat_start(grant(7, 2)), None);
 }
 
 #[test]

@@ -36,7 +36,7 @@ returns-then-repeats_from g c =
     let m = g.P.SlotPlan.meaning c.args.plan.now in
     let rules = g.met.P.SlotPlan.keeps c.args.plan.now in
     let xs = c.args.octets.now in
-    let e = found m c.numbers-numbers.result xs c.args.t c.numbers-numbers.ensures c.loop-before.before c.grant.result c.in-Some.grant c.loop-before.invariant (omega arith) c.grant.ensures c.in-Some.is c.repeats_from.result c.repeats_from.ensures c.if-repeats_from.true in
+    let e = found m c.numbers.result xs c.args.t c.numbers.ensures c.loop-before.before c.grant.result c.in-Some.grant c.loop-before.invariant (omega arith) c.grant.ensures c.in-Some.is c.repeats_from.result c.repeats_from.ensures c.if-repeats_from.true in
     record { answer = e; names = named m xs c.args.t _ rules e; apart = apart m xs rules; within = within m xs; order = in_order m xs rules }
 
 pub returns : goal.returns
@@ -44,5 +44,5 @@ returns g c =
     let m = g.P.SlotPlan.meaning c.args.plan.now in
     let rules = g.met.P.SlotPlan.keeps c.args.plan.now in
     let xs = c.args.octets.now in
-    let e = missing m c.numbers-numbers.result xs c.args.t c.numbers-numbers.ensures c.loop-before.before c.loop-before.invariant (omega arith) in
+    let e = missing m c.numbers.result xs c.args.t c.numbers.ensures c.loop-before.before c.loop-before.invariant (omega arith) in
     record { answer = e; names = named m xs c.args.t None rules e; apart = apart m xs rules; within = within m xs; order = in_order m xs rules }

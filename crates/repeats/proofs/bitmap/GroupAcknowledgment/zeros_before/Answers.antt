@@ -1,0 +1,21 @@
+use Rattle.std.proofs.Common.{◌≡◌, ℕ, ◌+◌, Bool, length, zero-add, refl, ap, ◌∙◌, arith, rules}
+use Rattle.std.specs.List.{filter, range_with_len}
+use Rattle.std.proofs.lemmas.Iterator.{YieldsList-from_range}
+use Rattle.std.proofs.lemmas.Iterator.Consumers.{YieldsList-at, YieldsList-from_filter, count_from_yields_List}
+use borrow.Author.Tests.{tests}
+use Rattle.repeats.specs.Bitmaps.{missed}
+use Rattle.repeats.specs.Starts.{count_below}
+use Rattle.repeats.proofs.Ranges.{count_from}
+use Rattle.repeats.proofs.bitmap.GroupAcknowledgment.zeros_before.Goals as goal
+
+counted : (p : ℕ → Bool) (t : ℕ) → length (filter p (range_with_len 0 t)) ≡ count_below p t
+counted p t =
+    let e : count_below p (0 + t) ≡ count_below p t = ap (count_below p) (zero-add t) in
+    omega (arith, count_from p 0 t)
+
+pub returns : goal.returns
+returns c =
+    let p = missed c.args.self.numbers c.args.self.octets.now in
+    let t = c.args.t in
+    let e = count_from_yields_List c.filter.result c.count.result c.count.ensures.ran (YieldsList-from_filter _ p (YieldsList-at c.filter.ensures.source (YieldsList-from_range 0 t t refl (omega arith))) c.filter.ensures.closure (λ x b q k. search (rules, tests))) in
+    e ∙ counted p t
