@@ -87,8 +87,8 @@ impl Console {
             Request::Even { numbers, grants } => {
                 self.accept(AnyPlan::Even(EvenPlan::new(numbers, grants)?), reply)
             }
-            Request::Timetable => timetable(self.plan()?, reply),
-            Request::Holder(t) => holder(self.plan()?, t, reply),
+            Request::Timetable => timetable(&self.accepted()?.plan, reply),
+            Request::Holder(t) => holder(&self.accepted()?.plan, t, reply),
             Request::Repeats(octets) => self.repeat(octets.as_slice(), reply),
             Request::Sender(t) => self.send(t, reply),
             Request::Image(offer) => image(offer, reply),
@@ -105,11 +105,8 @@ impl Console {
     }
 
     // The plan that was accepted last.
-    fn plan(&self) -> Result<&AnyPlan, Obstacle> {
-        match &self.accepted {
-            Some(accepted) => Ok(&accepted.plan),
-            None => Err(Obstacle::NoPlan),
-        }
+    fn accepted(&self) -> Result<&Accepted, Obstacle> {
+        self.accepted.as_ref().ok_or(Obstacle::NoPlan)
     }
 
     // Starts a listed plan.
@@ -154,7 +151,7 @@ impl Console {
 
     // Tells whose frame starts at a timeslot by the bitmap that was kept.
     fn send(&self, t: u8, reply: &mut Reply<'_>) -> Result<(), Stop> {
-        let accepted = self.accepted.as_ref().ok_or(Obstacle::NoPlan)?;
+        let accepted = self.accepted()?;
         let bitmap = accepted.bitmap.as_ref().ok_or(Obstacle::NoBitmap)?;
         sender_at(&accepted.plan, bitmap.as_slice(), t, reply)
     }

@@ -1,14 +1,14 @@
 // A whole run of a network that carries readings, over a radio that loses frames.
 use crate::host::Host;
 use crate::performers::{Performer, first};
-use crate::plans::{AnyPlan, grants_of};
+use crate::plans::AnyPlan;
 use crate::radio::Radio;
 use crate::reply::Reply;
 use crate::stops::Stop;
 use cargo::Reading;
 use coordinator::Mode;
 use frame::Fault;
-use plan::SlotPlan;
+use plan::{Grants, SlotPlan};
 use std::alloc::Global;
 use times::{superframe_symbols, to_microseconds};
 
@@ -52,10 +52,9 @@ impl Hall {
     // A coordinator over a plan, and a device for each grant.
     fn new(heap: Global, plan: AnyPlan, run: Run) -> Result<Hall, Stop> {
         let numbers = plan.numbers();
-        let mut performers = Vec::new(heap);
-        for grant in grants_of(&plan, heap)?.iter() {
-            performers.push(Performer::new(numbers, *grant))?;
-        }
+        let performers = Grants::of(&plan)
+            .map(|(_, grant)| Performer::new(numbers, grant))
+            .collect(heap)?;
         Ok(Hall {
             host: Host::new::<Reading>(plan),
             performers,

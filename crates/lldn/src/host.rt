@@ -7,7 +7,6 @@ use cargo::Cargo;
 use coordinator::{Coordinator, Heard, Mode, OpenSuperframe, Opened, Record};
 use frame::{Fault, Refusal};
 use network::coordinator_for;
-use std::mem;
 
 // A coordinator that keeps the superframe that it has open. It has to be finished, since an open superframe cannot be let go.
 pub struct Host {
@@ -65,18 +64,14 @@ impl Host {
         timeslot: u8,
         octets: &[u8],
     ) -> Result<Heard<C>, Fault> {
-        match &self.held {
-            Some(superframe) => self.coordinator.hear(superframe, timeslot, octets),
-            None => Err(Refusal::Superframe.at(0)),
-        }
+        let superframe = self.held.as_ref().ok_or(Refusal::Superframe.at(0))?;
+        self.coordinator.hear(superframe, timeslot, octets)
     }
 
     // Hears a management frame in the open superframe.
     pub fn hear_management(&mut self, octets: &[u8], buffer: &mut [u8]) -> Result<usize, Fault> {
-        match &self.held {
-            Some(superframe) => self.coordinator.hear_management(superframe, octets, buffer),
-            None => Err(Refusal::Superframe.at(0)),
-        }
+        let superframe = self.held.as_ref().ok_or(Refusal::Superframe.at(0))?;
+        self.coordinator.hear_management(superframe, octets, buffer)
     }
 
     // Closes the open superframe and tells its number, or none where none is open.
@@ -95,12 +90,11 @@ impl Host {
             mut coordinator,
             held,
         } = self;
-        match held {
-            Some(superframe) => match coordinator.close(superframe) {
+        if let Some(superframe) = held {
+            match coordinator.close(superframe) {
                 Ok(()) => {}
                 Err(_) => unreachable(),
-            },
-            None => {}
+            }
         }
     }
 }

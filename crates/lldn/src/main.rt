@@ -40,7 +40,7 @@ fn main(rt: HostRuntime) -> io::Result<()> {
     out.flush()
 }
 
-// Runs each line of the input.
+// Runs each line of the input. Lines are read into one buffer, as they need not be text and may be long.
 fn serve(console: &mut Console, heap: Global, input: &mut In, out: &mut Out) -> io::Result<()> {
     let mut line = Vec::new(heap);
     for number in 1..u64::MAX {

@@ -10,6 +10,7 @@ use coordinator::Mode;
 use std::alloc::Global;
 
 // A network, by the kind of its cargo. It has to be finished, for its coordinator.
+// Each call goes by the kind, since no function may hand out a value of a trait's type.
 pub enum AnyNetwork {
     Readings(Network<Reading>),
     Panels(Network<Panel>),

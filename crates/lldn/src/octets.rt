@@ -8,11 +8,7 @@ pub struct Octets(HexLine);
 impl Octets {
     // The octets, or none where the line is something else.
     pub fn of(line: HexLine) -> Option<Octets> {
-        if line.told().is_ok() {
-            Some(Octets(line))
-        } else {
-            None
-        }
+        line.told().is_ok().then_some(Octets(line))
     }
 
     pub fn as_slice(&self) -> &[u8] {

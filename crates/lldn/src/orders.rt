@@ -1,7 +1,7 @@
 // Orders to a network, and the words that they are made of.
 use crate::cargoes::{Kind, Offer};
 use crate::octets::Octets;
-use crate::words::{Words, named, number, octets_in};
+use crate::words::{Words, named, number};
 use coordinator::Mode;
 use frame::{Direction, Wish};
 
@@ -150,7 +150,7 @@ fn space(words: &mut Words<'_>) -> Option<usize> {
 fn frame<'a>(words: &mut Words<'a>) -> Option<FrameWord<'a>> {
     let word = words.next()?;
     match word.strip_prefix('@') {
-        None => Some(FrameWord::Octets(octets_in(word)?)),
+        None => Some(FrameWord::Octets(Words::of(word).octets()?)),
         Some("open") => Some(FrameWord::Beacon),
         Some("coordinator") => Some(FrameWord::Reply),
         Some(name) => Some(FrameWord::Device(named(name)?)),
@@ -165,6 +165,7 @@ fn wish(words: &mut Words<'_>) -> Option<Wish> {
     })
 }
 
+// A direction or a mode, by a match: both types are of other crates, which cannot be read from words here.
 fn direction(word: &str) -> Option<Direction> {
     match word {
         "uplink" => Some(Direction::Uplink),

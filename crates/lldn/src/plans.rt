@@ -6,8 +6,8 @@ ghost use Rattle.plan.specs.EvenPlans.{even_meaning};
 ghost use Rattle.plan.specs.ListedPlans.{listed_meaning};
 
 use crate::stops::Stop;
-use plan::{EvenPlan, Grant, ListedPlan, Numbers, SlotPlan};
-use std::alloc::{AllocError, Global};
+use plan::{EvenPlan, Grant, Grants, ListedPlan, Numbers, SlotPlan};
+use std::alloc::Global;
 
 // The plan that was accepted last.
 #[derive(Drop)]
@@ -22,8 +22,8 @@ impl AnyPlan {
         match self {
             AnyPlan::Even(plan) => Ok(AnyPlan::Even(*plan)),
             AnyPlan::Listed(plan) => {
-                let plan = ListedPlan::new(plan.numbers(), grants_of(plan, heap)?)?;
-                Ok(AnyPlan::Listed(plan))
+                let grants = Grants::of(plan).map(|(_, grant)| grant).collect(heap)?;
+                Ok(AnyPlan::Listed(ListedPlan::new(plan.numbers(), grants)?))
             }
         }
     }
@@ -34,17 +34,7 @@ pub fn last(first: u8, width: u8) -> u16 {
     (u16::from(first) + u16::from(width)).saturating_sub(1)
 }
 
-// The grants of a plan.
-pub fn grants_of<P: SlotPlan>(plan: &P, heap: Global) -> Result<Vec<Grant>, AllocError> {
-    let mut grants = Vec::new(heap);
-    for before in 0..plan.count() {
-        if let Some(grant) = plan.grant(before + 1) {
-            grants.push(grant)?;
-        }
-    }
-    Ok(grants)
-}
-
+// Each answer goes by the kind of plan, since no function may hand out a value of a trait's type.
 impl SlotPlan for AnyPlan {
     ghost meaning = { plan_meaning };
 

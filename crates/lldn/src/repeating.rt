@@ -3,7 +3,7 @@ use crate::plans::{AnyPlan, last};
 use crate::reply::Reply;
 use crate::stops::Stop;
 use frame::Direction;
-use plan::{Grant, SlotPlan};
+use plan::{Grant, Grants};
 use repeats::{GroupAcknowledgment, sender};
 use std::fmt;
 
@@ -33,12 +33,9 @@ pub fn repeats(
     bitmap: GroupAcknowledgment<'_>,
     reply: &mut Reply<'_>,
 ) -> Result<(), Stop> {
-    for before in 0..plan.count() {
-        let i = before + 1;
-        if let Some(grant) = plan.grant(i) {
-            let outcome = outcome_of(bitmap, grant);
-            reply.line(format_args!("grant {i} {outcome}"))?;
-        }
+    for (i, grant) in Grants::of(plan) {
+        let outcome = outcome_of(bitmap, grant);
+        reply.line(format_args!("grant {i} {outcome}"))?;
     }
     Ok(())
 }

@@ -150,12 +150,10 @@ fn run(words: &mut Words<'_>) -> Option<Run> {
     let superframes = words.number()?;
     let loss = words.number()?;
     let seed = words.number()?;
-    if superframes > 1_000_000 || loss > 100 {
-        return None;
-    }
-    Some(Run {
+    let run = Run {
         superframes,
         loss,
         seed,
-    })
+    };
+    (superframes <= 1_000_000 && loss <= 100).then_some(run)
 }

@@ -124,10 +124,7 @@ impl<C: Carried> Network<C> {
             FrameWord::Reply => self.reply.as_deref(),
             FrameWord::Device(name) => self.wrote(name)?,
         };
-        match kept {
-            Some(octets) => Ok(Some(octets.to_vec(self.heap)?)),
-            None => Ok(None),
-        }
+        Ok(kept.map(|octets| octets.to_vec(self.heap)).transpose()?)
     }
 
     // What the device with a name wrote last.

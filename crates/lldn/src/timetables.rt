@@ -2,9 +2,8 @@
 use crate::plans::{AnyPlan, last};
 use crate::reply::Reply;
 use crate::stops::Stop;
-use frame::Direction;
 use hexadecimal::Hex;
-use plan::SlotPlan;
+use plan::{Grant, Grants, SlotPlan};
 use times::{beacon_symbols, grant_time, superframe_symbols, to_microseconds};
 
 // Who holds a timeslot.
@@ -19,8 +18,8 @@ pub fn holder(plan: &AnyPlan, t: u8, reply: &mut Reply<'_>) -> Result<(), Stop> 
 pub fn timetable(plan: &AnyPlan, reply: &mut Reply<'_>) -> Result<(), Stop> {
     let beacon = beacon_symbols(plan.numbers());
     reply.line(format_args!("beacon symbols 0 to {beacon}"))?;
-    for before in 0..plan.count() {
-        grant_line(plan, before + 1, reply)?;
+    for (i, grant) in Grants::of(plan) {
+        grant_line(plan, i, grant, reply)?;
     }
     let symbols = superframe_symbols(plan);
     let microseconds = to_microseconds(symbols);
@@ -29,17 +28,19 @@ pub fn timetable(plan: &AnyPlan, reply: &mut Reply<'_>) -> Result<(), Stop> {
     ))
 }
 
-// Grant i, if there is one.
-fn grant_line(plan: &AnyPlan, i: usize, reply: &mut Reply<'_>) -> Result<(), Stop> {
-    let (Some(grant), Some((start, end))) = (plan.grant(i), grant_time(plan, i)) else {
+// Grant i, if it has a time.
+fn grant_line(
+    plan: &AnyPlan,
+    i: usize,
+    grant: Grant,
+    reply: &mut Reply<'_>,
+) -> Result<(), Stop> {
+    let Some((start, end)) = grant_time(plan, i) else {
         return Ok(());
     };
     let numbers = plan.numbers();
     let address = grant.address.to_be_bytes();
-    let direction = match grant.direction(numbers) {
-        Direction::Uplink => "uplink",
-        Direction::Bidirectional => "bidirectional",
-    };
+    let direction = grant.direction(numbers);
     let simple = grant.simple;
     let first = grant.first;
     let last = last(first, grant.width);

@@ -75,15 +75,6 @@ fn push(line: &mut HexLine, word: &str) {
     }
 }
 
-// The octets in one word, none in `-`.
-pub fn octets_in(word: &str) -> Option<Octets> {
-    let mut line = HexLine::new();
-    if word != "-" {
-        push(&mut line, word);
-    }
-    Octets::of(line)
-}
-
 // A word that starts with a letter.
 pub fn named(word: &str) -> Option<&str> {
     word.starts_with(|c: char| c.is_ascii_alphabetic())

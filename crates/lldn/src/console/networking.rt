@@ -18,7 +18,7 @@ impl Console {
 
     // Makes a network over the plan; the one that was made before is gone.
     pub fn make_network(&mut self, reply: &mut Reply<'_>) -> Result<(), Stop> {
-        let plan = self.plan()?.again(self.heap)?;
+        let plan = self.accepted()?.plan.again(self.heap)?;
         let network = AnyNetwork::new(self.heap, self.kind, plan);
         let mode = network.mode();
         end(mem::replace(&mut self.network, Some(network)));
@@ -27,7 +27,7 @@ impl Console {
 
     // Runs a whole network of its own over the plan.
     pub fn run_hall(&self, run: Run, reply: &mut Reply<'_>) -> Result<(), Stop> {
-        let plan = self.plan()?.again(self.heap)?;
+        let plan = self.accepted()?.plan.again(self.heap)?;
         tell_hall(self.heap, plan, run, reply)
     }
 
@@ -36,7 +36,7 @@ impl Console {
         if !order.suits(self.kind) {
             return Err(Obstacle::NotUnderstood.into());
         }
-        self.plan()?;
+        self.accepted()?;
         match &mut self.network {
             Some(network) => network.run(order, reply),
             None => Err(Obstacle::NoCoordinator.into()),
