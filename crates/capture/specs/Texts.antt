@@ -7,13 +7,11 @@ use Rattle.frame.specs.declared.frames.BeaconState.TheVariants as state
 use Rattle.frame.specs.declared.frames.Command.{Command}
 use Rattle.frame.specs.declared.frames.Command.TheVariants as commands
 use Rattle.frame.specs.declared.frames.Configuration.{Configuration}
-use Rattle.frame.specs.declared.frames.Direction.{Direction}
-use Rattle.frame.specs.declared.frames.Direction.TheVariants as directions
 use Rattle.frame.specs.declared.frames.Frame.{Frame}
 use Rattle.frame.specs.declared.frames.Frame.TheVariants as frame
 use Rattle.frame.specs.declared.frames.Part.{Part}
 use Rattle.frame.specs.declared.frames.Wish.{Wish}
-use Rattle.frame.specs.Messages.{type_code}
+use Rattle.frame.specs.Messages.{type_code, direction_text}
 use Rattle.frame.specs.Octets.{octet, little}
 use Rattle.hexadecimal.specs.Grammar.{text_of, octet_digits}
 
@@ -24,10 +22,6 @@ part_text name p = name ++ (codes "@" ++ (decimal p.place ++ (codes "=" ++ text_
 -- a full address as the sixteen hexadecimal digits of its number
 abbrev pub address_text : ℕ → List ℕ
 address_text address = text_of (reverse (little 8 address))
-
-abbrev pub direction_text : Direction → List ℕ
-direction_text directions.Uplink = codes "uplink"
-direction_text directions.Bidirectional = codes "bidirectional"
 
 -- the control octet and the flags of a beacon
 abbrev pub start_text : Part → Part → List ℕ

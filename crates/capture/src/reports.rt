@@ -10,7 +10,7 @@ use frame::{Fault, Frame, read};
 use hexadecimal::{HexLine, NotOctets};
 use std::fmt;
 
-// What is reported of a line that is not skipped.
+// What is reported of a line that is not skipped. It is no Result, since a Result cannot be given a Display.
 #[derive(Clone, Copy)]
 pub enum Report<'a> {
     NotOctets,
@@ -48,7 +48,7 @@ impl fmt::Display for Report<'_> {
 
     fn fmt<W: fmt::Write>(&self, f: &mut fmt::Formatter<W>) -> fmt::Result {
         match *self {
-            Report::NotOctets => f.write_str("not octets"),
+            Report::NotOctets => write!(f, "{NotOctets}"),
             Report::Refused(fault) => write!(f, "refused {fault}"),
             Report::Sound(frame) => write!(f, "{}", Dissected(frame)),
         }

@@ -1,30 +1,21 @@
 // A frame taken apart, as text.
-ghost use Rattle.std.specs.Prelude.{◌≡◌, Some};
-ghost use Rattle.std.specs.Fmt.{WritesOnOk};
-ghost use Rattle.capture.specs.Texts.{part_text, address_text, direction_text, start_text, header_text, addressed_text, grant_text, plan_text};
-ghost use Rattle.capture.specs.Texts.{beacon_text, data_text, acknowledgment_text, response_text, status_text, request_text, command_text, frame_text};
-ghost use Rattle.frame.specs.Octets.{octet};
+ghost use Rattle.std.specs.Prelude.{Some};
+ghost use Rattle.capture.specs.Texts.{part_text, address_text, start_text, header_text, addressed_text, grant_text, plan_text, beacon_text, command_text, frame_text};
 
-use frame::{
-    Acknowledged, BeaconHeader, BeaconState, Command, Configuration, Direction, Frame, Part, Wish,
-};
+use frame::{BeaconHeader, BeaconState, Command, Configuration, Frame, Part, Wish};
 use hexadecimal::Hex;
 use std::fmt;
 
-// A part of a frame with its name.
+// A part of a frame, behind its name.
 #[derive(Clone, Copy)]
-struct Named<'a> {
-    name: &'static str,
-    part: Part<'a>,
-}
+struct Named<'a>(&'static str, Part<'a>);
 
 impl fmt::Display for Named<'_> {
-    ghost output = { λ x. Some (part_text x.name.now x.part) };
+    ghost output = { λ x. Some (part_text x.0.now x.1) };
 
     fn fmt<W: fmt::Write>(&self, f: &mut fmt::Formatter<W>) -> fmt::Result {
-        let name = self.name;
-        let place = self.part.place;
-        write!(f, "{name}@{place}={}", Hex(self.part.octets))
+        let Named(name, Part { place, octets }) = *self;
+        write!(f, "{name}@{place}={}", Hex(octets))
     }
 }
 
@@ -36,18 +27,7 @@ impl fmt::Display for Address {
     ghost output = { λ x. Some (address_text x.0) };
 
     fn fmt<W: fmt::Write>(&self, f: &mut fmt::Formatter<W>) -> fmt::Result {
-        let octets = self.0.to_be_bytes();
-        write!(f, "{}", Hex(&octets))
-    }
-}
-
-// A direction by its name.
-fn direction_name(direction: Direction) -> &'static str
-    ensures { result.now ≡ direction_text direction }
-{
-    match direction {
-        Direction::Uplink => "uplink",
-        Direction::Bidirectional => "bidirectional",
+        write!(f, "{}", Hex(&self.0.to_be_bytes()))
     }
 }
 
@@ -131,19 +111,48 @@ impl fmt::Display for Start<'_> {
     ghost output = { λ x. Some (start_text x.control x.flags) };
 
     fn fmt<W: fmt::Write>(&self, f: &mut fmt::Formatter<W>) -> fmt::Result {
-        let control = Named {
-            name: "control",
-            part: self.control,
-        };
-        let flags = Named {
-            name: "flags",
-            part: self.flags,
-        };
+        let control = Named("control", self.control);
+        let flags = Named("flags", self.flags);
         write!(f, "{control} {flags}")
     }
 }
 
-// The control octet and the full address of a command.
+// A beacon.
+#[derive(Clone, Copy)]
+struct Beacon<'a> {
+    start: Start<'a>,
+    header: Header,
+    state: BeaconState<'a>,
+}
+
+impl fmt::Display for Beacon<'_> {
+    ghost output = { λ x. Some (beacon_text x.start.control x.start.flags x.header.0 x.state) };
+
+    fn fmt<W: fmt::Write>(&self, f: &mut fmt::Formatter<W>) -> fmt::Result {
+        let Beacon {
+            start,
+            header,
+            state,
+        } = *self;
+        match state {
+            BeaconState::Online { timeslots, bitmap } => {
+                let bitmap = Named("bitmap", bitmap);
+                write!(f, "beacon Online {start} {header} N@5={timeslots} {bitmap}")
+            }
+            BeaconState::Discovery { management } => write!(
+                f,
+                "beacon Discovery {start} g@1={management} {header}"
+            ),
+            BeaconState::Configuration { management } => write!(
+                f,
+                "beacon Configuration {start} g@1={management} {header}"
+            ),
+            BeaconState::Reset => write!(f, "beacon Reset {start} {header}"),
+        }
+    }
+}
+
+// The control octet of a command, and the full address in it.
 #[derive(Clone, Copy)]
 struct Addressed<'a> {
     control: Part<'a>,
@@ -154,170 +163,63 @@ impl fmt::Display for Addressed<'_> {
     ghost output = { λ x. Some (addressed_text x.control x.address) };
 
     fn fmt<W: fmt::Write>(&self, f: &mut fmt::Formatter<W>) -> fmt::Result {
-        let control = Named {
-            name: "control",
-            part: self.control,
-        };
+        let control = Named("control", self.control);
         let address = Address(self.address);
         write!(f, "{control} address@2={address}")
     }
 }
 
-fn show_beacon<W: fmt::Write>(
-    start: Start<'_>,
-    header: Header,
-    state: BeaconState<'_>,
-    f: &mut fmt::Formatter<W>,
-) -> fmt::Result
-    ensures { WritesOnOk W.write_str_gives f.old result (beacon_text start.entry.control start.entry.flags header.0 state.entry) f.new }
-{
-    match state {
-        BeaconState::Online { timeslots, bitmap } => {
-            let bitmap = Named {
-                name: "bitmap",
-                part: bitmap,
-            };
-            write!(f, "beacon Online {start} {header} N@5={timeslots} {bitmap}")
-        }
-        BeaconState::Discovery { management } => write!(
-            f,
-            "beacon Discovery {start} g@1={management} {header}"
-        ),
-        BeaconState::Configuration { management } => write!(
-            f,
-            "beacon Configuration {start} g@1={management} {header}"
-        ),
-        BeaconState::Reset => write!(f, "beacon Reset {start} {header}"),
-    }
-}
-
-fn show_response<W: fmt::Write>(
-    start: Addressed<'_>,
-    wish: Wish,
-    f: &mut fmt::Formatter<W>,
-) -> fmt::Result
-    ensures { WritesOnOk W.write_str_gives f.old result (response_text start.entry.control start.entry.address wish) f.new }
-{
-    let width = wish.width;
-    let direction = direction_name(wish.direction);
-    write!(
-        f,
-        "command Discover-Response {start} width@10={width} direction@11={direction}"
-    )
-}
-
-fn show_status<W: fmt::Write>(
-    start: Addressed<'_>,
-    simple: u8,
-    wish: Wish,
-    first: u8,
-    width: u8,
-    f: &mut fmt::Formatter<W>,
-) -> fmt::Result
-    ensures { WritesOnOk W.write_str_gives f.old result (status_text start.entry.control start.entry.address simple wish first width) f.new }
-{
-    let wanted = wish.width;
-    let direction = direction_name(wish.direction);
-    write!(
-        f,
-        "command Configuration-Status {start} simple@10={simple} width@11={wanted} direction@12={direction} first@13={first} slots@14={width}"
-    )
-}
-
-fn show_request<W: fmt::Write>(
-    start: Addressed<'_>,
-    parameters: Part<'_>,
-    configuration: Configuration,
-    f: &mut fmt::Formatter<W>,
-) -> fmt::Result
-    ensures { WritesOnOk W.write_str_gives f.old result (request_text start.entry.control start.entry.address parameters.entry configuration) f.new }
-{
-    let management = octet_at(parameters.octets, 10);
-    let grant = Granted {
-        configuration,
-        management,
-    };
-    let plan = Planned(configuration);
-    write!(f, "command Configuration-Request {start} {grant} {plan}")
-}
-
-fn show_command<W: fmt::Write>(
-    control: Part<'_>,
-    parameters: Part<'_>,
+// A command, with its control octet and its parameters.
+#[derive(Clone, Copy)]
+struct Commanded<'a> {
+    control: Part<'a>,
+    parameters: Part<'a>,
     command: Command,
-    f: &mut fmt::Formatter<W>,
-) -> fmt::Result
-    ensures { WritesOnOk W.write_str_gives f.old result (command_text control.entry parameters.entry command) f.new }
-{
-    match command {
-        Command::DiscoverResponse { address, wish } => show_response(
-            Addressed { control, address },
-            wish,
-            f,
-        ),
-        Command::ConfigurationStatus {
-            address,
-            simple,
-            wish,
-            first,
-            width,
-        } => show_status(
-            Addressed { control, address },
-            simple,
-            wish,
-            first,
-            width,
-            f,
-        ),
-        Command::ConfigurationRequest {
-            address,
-            configuration,
-        } => show_request(Addressed { control, address }, parameters, configuration, f),
+}
+
+impl fmt::Display for Commanded<'_> {
+    ghost output = { λ x. Some (command_text x.control x.parameters x.command) };
+
+    fn fmt<W: fmt::Write>(&self, f: &mut fmt::Formatter<W>) -> fmt::Result {
+        let control = self.control;
+        match self.command {
+            Command::DiscoverResponse { address, wish } => {
+                let start = Addressed { control, address };
+                let Wish { width, direction } = wish;
+                write!(
+                    f,
+                    "command Discover-Response {start} width@10={width} direction@11={direction}"
+                )
+            }
+            Command::ConfigurationStatus {
+                address,
+                simple,
+                wish,
+                first,
+                width,
+            } => {
+                let start = Addressed { control, address };
+                write!(
+                    f,
+                    "command Configuration-Status {start} simple@10={simple} width@11={} direction@12={} first@13={first} slots@14={width}",
+                    wish.width, wish.direction
+                )
+            }
+            Command::ConfigurationRequest {
+                address,
+                configuration,
+            } => {
+                let start = Addressed { control, address };
+                let management = self.parameters.octets.get(10).copied().unwrap_or(0);
+                let grant = Granted {
+                    configuration,
+                    management,
+                };
+                let plan = Planned(configuration);
+                write!(f, "command Configuration-Request {start} {grant} {plan}")
+            }
+        }
     }
-}
-
-// The octet at an index, and 0 past the end.
-fn octet_at(octets: &[u8], index: usize) -> u8
-    ensures { result ≡ octet octets.now index }
-{
-    if index < octets.len() {
-        octets[index]
-    } else {
-        0
-    }
-}
-
-fn show_data<W: fmt::Write>(
-    control: Part<'_>,
-    payload: Part<'_>,
-    f: &mut fmt::Formatter<W>,
-) -> fmt::Result
-    ensures { WritesOnOk W.write_str_gives f.old result (data_text control.entry payload.entry) f.new }
-{
-    let control = Named {
-        name: "control",
-        part: control,
-    };
-    let payload = Named {
-        name: "payload",
-        part: payload,
-    };
-    write!(f, "data {control} {payload}")
-}
-
-fn show_acknowledgment<W: fmt::Write>(
-    control: Part<'_>,
-    acknowledged: Acknowledged,
-    f: &mut fmt::Formatter<W>,
-) -> fmt::Result
-    ensures { WritesOnOk W.write_str_gives f.old result (acknowledgment_text control.entry acknowledged) f.new }
-{
-    let control = Named {
-        name: "control",
-        part: control,
-    };
-    let code = [acknowledged.code()];
-    write!(f, "acknowledgment {control} type@1={}", Hex(&code))
 }
 
 // A frame, taken apart.
@@ -334,17 +236,45 @@ impl fmt::Display for Dissected<'_> {
                 flags,
                 header,
                 state,
-            } => show_beacon(Start { control, flags }, Header(header), state, f),
-            Frame::Data { control, payload } => show_data(control, payload, f),
+            } => {
+                let start = Start { control, flags };
+                let header = Header(header);
+                write!(
+                    f,
+                    "{}",
+                    Beacon {
+                        start,
+                        header,
+                        state
+                    }
+                )
+            }
+            Frame::Data { control, payload } => {
+                let control = Named("control", control);
+                let payload = Named("payload", payload);
+                write!(f, "data {control} {payload}")
+            }
             Frame::Acknowledgment {
                 control,
                 acknowledged,
-            } => show_acknowledgment(control, acknowledged, f),
+            } => {
+                let control = Named("control", control);
+                let code = [u8::from(acknowledged)];
+                write!(f, "acknowledgment {control} type@1={}", Hex(&code))
+            }
             Frame::Command {
                 control,
                 parameters,
                 command,
-            } => show_command(control, parameters, command, f),
+            } => write!(
+                f,
+                "{}",
+                Commanded {
+                    control,
+                    parameters,
+                    command
+                }
+            ),
         }
     }
 }

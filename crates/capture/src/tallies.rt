@@ -6,7 +6,7 @@ use crate::reports::Report;
 use std::fmt;
 
 // How many lines were sound frames, refused ones and no octets. A count stops at the largest number that it can hold.
-#[derive(Clone, Copy)]
+#[derive(Clone, Copy, Default)]
 pub struct Tally {
     pub sound: u64,
     pub refused: u64,
@@ -18,37 +18,25 @@ impl Tally {
     pub fn new() -> Tally
         ensures { result ≡ nothing }
     {
-        Tally {
-            sound: 0,
-            refused: 0,
-            unreadable: 0,
-        }
+        Tally::default()
     }
 
     // The tally with one report more.
     pub fn with(self, report: &Report<'_>) -> Tally
         ensures { result ≡ counted self report.now }
     {
-        let Tally {
-            sound,
-            refused,
-            unreadable,
-        } = self;
-        match *report {
+        match report {
             Report::Sound(_) => Tally {
-                sound: sound.saturating_add(1),
-                refused,
-                unreadable,
+                sound: self.sound.saturating_add(1),
+                ..self
             },
             Report::Refused(_) => Tally {
-                sound,
-                refused: refused.saturating_add(1),
-                unreadable,
+                refused: self.refused.saturating_add(1),
+                ..self
             },
             Report::NotOctets => Tally {
-                sound,
-                refused,
-                unreadable: unreadable.saturating_add(1),
+                unreadable: self.unreadable.saturating_add(1),
+                ..self
             },
         }
     }

@@ -1,4 +1,4 @@
-pub mod Buffers
+pub mod Parts
 pub mod Numbers
 pub mod Returns
 pub mod Exact

@@ -1,5 +1,5 @@
 -- What is written reads back as what was asked.
-use Rattle.std.proofs.Common.{◌≡◌, ℕ, ◌^◌, ◌<◌, ◌≤◌, true, false, ltb, List, ◌++◌, length, take, drop, IfOk, Ok, Err, Result, refl, ap, ◌∙◌, subst, inl, inr, arith, lit<}
+use Rattle.std.proofs.Common.{◌≡◌, ℕ, ◌^◌, ◌<◌, ◌≤◌, true, false, ltb, List, [], ◌++◌, length, take, drop, IfOk, Ok, Err, Result, refl, ap, ◌∙◌, subst, inl, inr, arith, lit<, lit≤}
 use Rattle.std.proofs.lemmas.List.{take_at}
 use Rattle.std.proofs.lemmas.Bool.{cases_lt}
 use Rattle.std.proofs.lemmas.Bool.Decides.{nat_tests}
@@ -7,10 +7,13 @@ use Rattle.frame.specs.declared.faults.Fault.{Fault}
 use Rattle.frame.specs.declared.faults.Refusal.TheVariants as refusal
 use Rattle.frame.specs.declared.frames.Acknowledged.TheVariants as acknowledged
 use Rattle.frame.specs.declared.frames.Command.TheVariants as commands
+use Rattle.frame.specs.declared.frames.BeaconHeader.{BeaconHeader}
 use Rattle.frame.specs.declared.frames.Direction.{Direction}
 use Rattle.frame.specs.declared.frames.Direction.TheVariants as directions
+use Rattle.frame.specs.declared.frames.ManagementState.{ManagementState}
+use Rattle.frame.specs.declared.frames.ManagementState.TheVariants as management
 use Rattle.frame.specs.Formats.{extent, parts, reading, Told}
-use Rattle.frame.specs.Messages.{Message, online_beacon, discovery_beacon, configuration_beacon, reset_beacon, data_frame, acknowledgment_frame, command_frame, octets_of}
+use Rattle.frame.specs.Messages.{Message, online_beacon, discovery_beacon, configuration_beacon, reset_beacon, data_frame, acknowledgment_frame, command_frame, management_beacon, management_state, beacon_octets, octets_of}
 use Rattle.frame.specs.Refusals.{fault}
 use Rattle.frame.specs.Writing.{format_for, fitting, left_by, Written}
 use Rattle.frame.proofs.Numbers.{value_little, low_bits, middle_bit, high_bits}
@@ -79,3 +82,8 @@ written m xs before r after same fit short e f =
       memory = memory;
       reads_back = at_the_start (octets_of m) before after r (λ xs. reading xs ≡ Ok (told_of m)) (reads_back m fit short) answer memory;
     }
+
+-- the same of a beacon in a state that has management timeslots
+pub written_managing : (s : ManagementState) (h : BeaconHeader) (g : ℕ) (xs before : List ℕ) (r : Result ℕ Fault) (after : List ℕ) → xs ≡ beacon_octets (management_state s) g h [] → g ≤ 7 → r ≡ fitting xs before → after ≡ left_by r xs before → Written (management_beacon s h g) before r after
+written_managing management.Discovery h g xs before r after same fit e f = written (discovery_beacon h g) xs before r after same fit (lit≤ tt) e f
+written_managing management.Configuration h g xs before r after same fit e f = written (configuration_beacon h g) xs before r after same fit (lit≤ tt) e f

@@ -2,6 +2,7 @@ pub mod Refusals
 pub mod Widths
 pub mod Octets
 pub mod Messages
+pub mod Codes
 pub mod Formats
 pub mod Views
 pub mod Writing

@@ -1,5 +1,5 @@
 -- What a frame says, and the octets that say it.
-use Rattle.std.specs.Prelude.{ℕ, ◌+◌, ◌*◌, List, [], ◌∷◌, ◌++◌}
+use Rattle.std.specs.Prelude.{ℕ, ◌+◌, ◌*◌, List, [], ◌∷◌, ◌++◌, codes}
 use Rattle.frame.specs.declared.frames.Acknowledged.{Acknowledged}
 use Rattle.frame.specs.declared.frames.Acknowledged.TheVariants as acknowledged
 use Rattle.frame.specs.declared.frames.BeaconHeader.{BeaconHeader}
@@ -7,6 +7,8 @@ use Rattle.frame.specs.declared.frames.Command.{Command}
 use Rattle.frame.specs.declared.frames.Command.TheVariants as commands
 use Rattle.frame.specs.declared.frames.Direction.{Direction}
 use Rattle.frame.specs.declared.frames.Direction.TheVariants as directions
+use Rattle.frame.specs.declared.frames.ManagementState.{ManagementState}
+use Rattle.frame.specs.declared.frames.ManagementState.TheVariants as management
 use Rattle.frame.specs.Octets.{little}
 
 -- what a frame says: a beacon in each of the four states, data, an acknowledgment or a command
@@ -19,12 +21,21 @@ pub data Message : Type 0 where
   acknowledgment_frame : Acknowledged → Message
   command_frame : Command → Message
 
--- the states of a network that beacons announce, and the number of each
+-- a beacon in one of the two states that have management timeslots
+abbrev pub management_beacon : ManagementState → BeaconHeader → ℕ → Message
+management_beacon management.Discovery h g = discovery_beacon h g
+management_beacon management.Configuration h g = configuration_beacon h g
+
+-- the states of a network that beacons announce, those that have management timeslots, and the number of each
 pub data State : Type 0 where
   online : State
   discovery : State
   configuration : State
   reset : State
+
+abbrev pub management_state : ManagementState → State
+management_state management.Discovery = discovery
+management_state management.Configuration = configuration
 
 abbrev pub state_code : State → ℕ
 state_code online = 0
@@ -53,6 +64,11 @@ identifier configuration_request = 15
 abbrev pub direction_code : Direction → ℕ
 direction_code directions.Uplink = 0
 direction_code directions.Bidirectional = 1
+
+-- a direction as text
+abbrev pub direction_text : Direction → List ℕ
+direction_text directions.Uplink = codes "uplink"
+direction_text directions.Bidirectional = codes "bidirectional"
 
 -- the control octet that is written for a subtype: frame type 4 in bits 0 to 2, the subtype in bits 6 and 7, every other bit zero
 abbrev pub control : ℕ → ℕ

@@ -1,5 +1,6 @@
 -- What writing a frame into a lent buffer answers and leaves there.
-use Rattle.std.specs.Prelude.{◌≡◌, ℕ, cond, List, ◌++◌, length, take, drop, is_ok, IfOk, Ok, Err, Result, nat_lt}
+use Rattle.std.specs.Prelude.{◌≡◌, ℕ, cond, List, ◌++◌, length, take, drop, is_ok, IfOk, Ok, Err, Result, nat_lt, flat_map}
+use Rattle.std.specs.Borrow.{Bor}
 use Rattle.frame.specs.declared.faults.Fault.{Fault}
 use Rattle.frame.specs.declared.faults.Refusal.TheVariants as refusal
 use Rattle.frame.specs.declared.frames.Command.{Command}
@@ -23,6 +24,10 @@ format_for (reset_beacon h) = beacon reset
 format_for (data_frame p) = payload
 format_for (acknowledgment_frame a) = acknowledgment a
 format_for (command_frame c) = command_format_for c
+
+-- the octets of parts, one part after another
+abbrev pub joined : List (Bor (List ℕ)) → List ℕ
+joined parts = flat_map (λ part. part.now) parts
 
 -- writing octets answers their length, or Space where the buffer is shorter
 abbrev pub fitting : List ℕ → List ℕ → Result ℕ Fault

@@ -1,8 +1,8 @@
 // Refusals: what a call answers in place of a result.
 ghost use Rattle.std.specs.Prelude.{◌≡◌, Some};
-ghost use Rattle.frame.specs.Refusals.{listed, fault, layer_name, fault_parts, fault_text};
-ghost use Rattle.std.specs.Fmt.{WritesOnOk};
+ghost use Rattle.frame.specs.Refusals.{listed, fault, layer_name, fault_text};
 
+use std::error::Error;
 use std::fmt;
 
 // Each refusal by its name.
@@ -66,13 +66,6 @@ pub struct Fault {
 }
 
 impl Refusal {
-    // The number under which the refusal is answered.
-    pub fn number(self) -> u8
-        ensures { result ≡ (listed self).number }
-    {
-        self as u8
-    }
-
     // The layer in which the refusal arises.
     pub fn layer(self) -> Layer
         ensures { result ≡ (listed self).layer }
@@ -100,12 +93,23 @@ impl Refusal {
             layer: self.layer(),
         }
     }
+}
 
-    // The refusal's name.
-    pub fn name(self) -> &'static str
-        ensures { result.now ≡ (listed self).name }
-    {
-        match self {
+// The number under which a refusal is answered.
+impl From<Refusal> for u8 {
+    ghost from_gives = { λ refusal number. number ≡ (listed refusal).number };
+
+    fn from(refusal: Refusal) -> u8 {
+        refusal as u8
+    }
+}
+
+// A refusal reads as its name. A derived Debug would write the same, but promises no text.
+impl fmt::Display for Refusal {
+    ghost output = { λ x. Some (listed x).name };
+
+    fn fmt<W: fmt::Write>(&self, f: &mut fmt::Formatter<W>) -> fmt::Result {
+        f.write_str(match self {
             Refusal::Plan => "Plan",
             Refusal::Superframe => "Superframe",
             Refusal::Mode => "Mode",
@@ -125,37 +129,21 @@ impl Refusal {
             Refusal::Waiting => "Waiting",
             Refusal::Size => "Size",
             Refusal::Space => "Space",
-        }
+        })
     }
 }
 
-impl Layer {
-    // The layer's name.
-    pub fn name(self) -> &'static str
-        ensures { result.now ≡ layer_name self }
-    {
-        match self {
-            Layer::Plan => "plan",
-            Layer::Frame => "frame",
-            Layer::Cargo => "cargo",
-            Layer::End => "end",
-        }
-    }
-}
-
-impl fmt::Display for Refusal {
-    ghost output = { λ x. Some (listed x).name };
-
-    fn fmt<W: fmt::Write>(&self, f: &mut fmt::Formatter<W>) -> fmt::Result {
-        f.write_str(self.name())
-    }
-}
-
+// A layer reads as its name.
 impl fmt::Display for Layer {
     ghost output = { λ x. Some (layer_name x) };
 
     fn fmt<W: fmt::Write>(&self, f: &mut fmt::Formatter<W>) -> fmt::Result {
-        f.write_str(self.name())
+        f.write_str(match self {
+            Layer::Plan => "plan",
+            Layer::Frame => "frame",
+            Layer::Cargo => "cargo",
+            Layer::End => "end",
+        })
     }
 }
 
@@ -164,24 +152,16 @@ impl fmt::Display for Fault {
     ghost output = { λ x. Some (fault_text x) };
 
     fn fmt<W: fmt::Write>(&self, f: &mut fmt::Formatter<W>) -> fmt::Result {
+        let number = u8::from(self.refusal);
         let Fault {
             refusal,
             place,
             layer,
         } = *self;
-        show(refusal.number(), refusal, place, layer, f)
+        write!(f, "{number} {refusal} at {place} in {layer}")
     }
 }
 
-// Writes the four parts of a fault.
-fn show<W: fmt::Write>(
-    number: u8,
-    refusal: Refusal,
-    place: usize,
-    layer: Layer,
-    f: &mut fmt::Formatter<W>,
-) -> fmt::Result
-    ensures { WritesOnOk W.write_str_gives f.old result (fault_parts number refusal place layer) f.new }
-{
-    write!(f, "{number} {refusal} at {place} in {layer}")
-}
+impl Error for Refusal {}
+
+impl Error for Fault {}

@@ -1,6 +1,12 @@
 // What a frame is made of.
-ghost use Rattle.std.specs.Prelude.{◌≡◌};
-ghost use Rattle.frame.specs.Messages.{type_code, direction_code};
+ghost use Rattle.std.specs.Prelude.{◌≡◌, Some};
+ghost use Rattle.frame.specs.declared.faults.Refusal.TheVariants.{Kind};
+ghost use Rattle.frame.specs.Formats.{acknowledged_of, direction_of};
+ghost use Rattle.frame.specs.Messages.{type_code, direction_code, direction_text};
+ghost use Rattle.std.specs.Option.{ok_or};
+
+use crate::faults::Refusal;
+use std::fmt;
 
 // A part of a frame: the index of its first octet in the frame, and its octets, borrowed from it.
 #[derive(Clone, Copy)]
@@ -58,6 +64,15 @@ pub enum BeaconState<'a> {
     Reset,
 }
 
+// The two states in which a superframe has management timeslots.
+#[derive(Clone, Copy, Debug, PartialEq, Eq)]
+pub enum ManagementState {
+    // The coordinator looks for devices.
+    Discovery,
+    // The coordinator hands out grants.
+    Configuration,
+}
+
 // What an acknowledgment acknowledges.
 #[derive(Clone, Copy, Debug, PartialEq, Eq)]
 pub enum Acknowledged {
@@ -66,12 +81,28 @@ pub enum Acknowledged {
     ConfigurationRequest = 0x0f,
 }
 
-impl Acknowledged {
-    // The type octet of the acknowledgment.
-    pub fn code(self) -> u8
-        ensures { result ≡ type_code self }
-    {
-        self as u8
+// The type octet of an acknowledgment.
+impl From<Acknowledged> for u8 {
+    ghost from_gives = { λ acknowledged code. code ≡ type_code acknowledged };
+
+    fn from(acknowledged: Acknowledged) -> u8 {
+        acknowledged as u8
+    }
+}
+
+// An octet that is no listed type is refused with Kind.
+impl TryFrom<u8> for Acknowledged {
+    type Error = Refusal;
+
+    ghost try_from_gives = { λ code r. r ≡ ok_or (acknowledged_of code) Kind };
+
+    fn try_from(code: u8) -> Result<Acknowledged, Refusal> {
+        match code {
+            0x01 => Ok(Acknowledged::Data),
+            0x0d => Ok(Acknowledged::DiscoverResponse),
+            0x0f => Ok(Acknowledged::ConfigurationRequest),
+            _ => Err(Refusal::Kind),
+        }
     }
 }
 
@@ -82,12 +113,38 @@ pub enum Direction {
     Bidirectional = 1,
 }
 
-impl Direction {
-    // The octet that stands for the direction.
-    pub fn code(self) -> u8
-        ensures { result ≡ direction_code self }
-    {
-        self as u8
+// The octet that stands for a direction.
+impl From<Direction> for u8 {
+    ghost from_gives = { λ direction code. code ≡ direction_code direction };
+
+    fn from(direction: Direction) -> u8 {
+        direction as u8
+    }
+}
+
+// An octet that stands for no direction is refused with Kind.
+impl TryFrom<u8> for Direction {
+    type Error = Refusal;
+
+    ghost try_from_gives = { λ code r. r ≡ ok_or (direction_of code) Kind };
+
+    fn try_from(code: u8) -> Result<Direction, Refusal> {
+        match code {
+            0 => Ok(Direction::Uplink),
+            1 => Ok(Direction::Bidirectional),
+            _ => Err(Refusal::Kind),
+        }
+    }
+}
+
+impl fmt::Display for Direction {
+    ghost output = { λ x. Some (direction_text x) };
+
+    fn fmt<W: fmt::Write>(&self, f: &mut fmt::Formatter<W>) -> fmt::Result {
+        f.write_str(match self {
+            Direction::Uplink => "uplink",
+            Direction::Bidirectional => "bidirectional",
+        })
     }
 }
 

@@ -1,6 +1,7 @@
 // Frames of the low latency mode (LLDN) of IEEE 802.15.4: read from received octets, and written into a lent buffer.
 #![tactic(auto)]
 
+mod codes;
 mod faults;
 mod frames;
 mod management;
@@ -9,11 +10,12 @@ mod writing;
 
 pub use faults::{Fault, Layer, Refusal};
 pub use frames::{
-    Acknowledged, BeaconHeader, BeaconState, Command, Configuration, Direction, Frame, Part, Wish,
+    Acknowledged, BeaconHeader, BeaconState, Command, Configuration, Direction, Frame,
+    ManagementState, Part, Wish,
 };
-pub use management::ManagementWidth;
+pub use management::{ManagementWidth, TooWide};
 pub use reading::read;
 pub use writing::{
-    write_acknowledgment, write_command, write_configuration_beacon, write_data,
-    write_discovery_beacon, write_online_beacon, write_reset_beacon,
+    put, write_acknowledgment, write_command, write_data, write_management_beacon,
+    write_online_beacon, write_reset_beacon,
 };

@@ -8,4 +8,8 @@ pub struct ManagementWidth {
     ghost narrow: { timeslots ≤ 7 },
 }
 
+// A number of base timeslots that three bits cannot hold.
+#[derive(Clone, Copy, Debug, PartialEq, Eq)]
+pub struct TooWide;
+
 pub mod making;

@@ -8,6 +8,7 @@ ghost use Rattle.frame.specs.Octets.{bits, octet};
 ghost use Rattle.frame.specs.Refusals.{fault};
 ghost use Rattle.frame.specs.Views.{piece, seen, announced};
 
+use crate::codes::{Identifier, LLDN, State, Subtype};
 use crate::faults::{Fault, Refusal};
 use crate::frames::{
     Acknowledged, BeaconHeader, BeaconState, Command, Configuration, Direction, Frame, Part, Wish,
@@ -20,6 +21,8 @@ fn bits_of(octet: u8, low: u32, count: u32) -> u8
 {
     (octet >> low) & ((1u8 << count) - 1)
 }
+
+// Octets and an index into them are what a slice's own range takes: a struct of both would be no plainer.
 
 // The part from one index up to another.
 fn part(octets: &[u8], from: usize, to: usize) -> Part<'_>
@@ -39,7 +42,7 @@ fn part_from(octets: &[u8], from: usize) -> Part<'_>
 {
     Part {
         place: from,
-        octets: octets.split_at(from).1,
+        octets: &octets[from..],
     }
 }
 
@@ -78,12 +81,7 @@ fn read_acknowledgment(octets: &[u8]) -> Result<Frame<'_>, Fault>
     ensures { seen result ≡ reading_as (acknowledgment_format (acknowledged_of (octet octets.now 1))) octets.now }
 {
     at_least(octets, 2)?;
-    let acknowledged = match octets[1] {
-        0x01 => Acknowledged::Data,
-        0x0d => Acknowledged::DiscoverResponse,
-        0x0f => Acknowledged::ConfigurationRequest,
-        _ => return Err(Refusal::Kind.at(1)),
-    };
+    let acknowledged = Acknowledged::try_from(octets[1]).map_err(|refusal| refusal.at(1))?;
     at_most(octets, 2)?;
     Ok(Frame::Acknowledgment {
         control: part(octets, 0, 1),
@@ -106,11 +104,7 @@ fn wish(octets: &[u8], from: usize) -> Result<Wish, Fault>
     requires { from + 1 < length octets.now }
     ensures { result ≡ wish_at from octets.now }
 {
-    let direction = match octets[from + 1] {
-        0 => Direction::Uplink,
-        1 => Direction::Bidirectional,
-        _ => return Err(Refusal::Kind.at(from + 1)),
-    };
+    let direction = Direction::try_from(octets[from + 1]).map_err(|refusal| refusal.at(from + 1))?;
     Ok(Wish {
         width: octets[from],
         direction,
@@ -181,11 +175,10 @@ fn read_command(octets: &[u8]) -> Result<Frame<'_>, Fault>
     ensures { seen result ≡ reading_as (command_format (order_of (octet octets.now 1))) octets.now }
 {
     at_least(octets, 2)?;
-    match octets[1] {
-        0x0d => read_discover_response(octets),
-        0x0e => read_configuration_status(octets),
-        0x0f => read_configuration_request(octets),
-        _ => Err(Refusal::Kind.at(1)),
+    match Identifier::try_from(octets[1]).map_err(|refusal| refusal.at(1))? {
+        Identifier::DiscoverResponse => read_discover_response(octets),
+        Identifier::ConfigurationStatus => read_configuration_status(octets),
+        Identifier::ConfigurationRequest => read_configuration_request(octets),
     }
 }
 
@@ -195,23 +188,22 @@ fn state(octets: &[u8]) -> Result<BeaconState<'_>, Fault>
     ensures { announced octets.now result ≡ reading_as (beacon_format (state_of (bits 0 3 (octet octets.now 1)))) octets.now }
 {
     let flags = octets[1];
-    let code = bits_of(flags, 0, 3);
-    if code == 0 {
+    let state = State::try_from(bits_of(flags, 0, 3)).map_err(|refusal| refusal.at(1))?;
+    if state == State::Online {
         at_least(octets, 6)?;
     }
     if bits_of(flags, 4, 1) != 0 {
         return Err(Refusal::Kind.at(1));
     }
     let management = bits_of(flags, 5, 3);
-    let state = match code {
-        0 => return read_online(octets),
-        4 => BeaconState::Discovery { management },
-        6 => BeaconState::Configuration { management },
-        7 => BeaconState::Reset,
-        _ => return Err(Refusal::Kind.at(1)),
+    let announced = match state {
+        State::Online => return read_online(octets),
+        State::Discovery => BeaconState::Discovery { management },
+        State::Configuration => BeaconState::Configuration { management },
+        State::Reset => BeaconState::Reset,
     };
     at_most(octets, 5)?;
-    Ok(state)
+    Ok(announced)
 }
 
 // The Online state: N and the bitmap.
@@ -248,11 +240,11 @@ fn read_subtype(octets: &[u8]) -> Result<Frame<'_>, Fault>
     requires { 0 < length octets.now }
     ensures { seen result ≡ reading_as (format_in octets.now) octets.now }
 {
-    match bits_of(octets[0], 6, 2) {
-        0 => read_beacon(octets),
-        1 => read_data(octets),
-        2 => read_acknowledgment(octets),
-        _ => read_command(octets),
+    match Subtype::of(octets[0]) {
+        Subtype::Beacon => read_beacon(octets),
+        Subtype::Data => read_data(octets),
+        Subtype::Acknowledgment => read_acknowledgment(octets),
+        Subtype::Command => read_command(octets),
     }
 }
 
@@ -268,7 +260,7 @@ pub fn read(octets: &[u8]) -> Result<Frame<'_>, Fault>
         return Err(Refusal::Empty.at(0));
     }
     let control = octets[0];
-    if bits_of(control, 0, 3) != 4 {
+    if bits_of(control, 0, 3) != LLDN {
         return Err(Refusal::Foreign.at(0));
     }
     if bits_of(control, 3, 2) != 0 {

@@ -1,41 +1,47 @@
 // Writing a frame into a lent buffer.
 ghost use Rattle.std.specs.Prelude.{◌≡◌, ◌+◌, ◌^◌, ◌<◌, ◌≤◌, [], ◌∷◌, ◌++◌, length};
-ghost use Rattle.frame.specs.Messages.{online_beacon, discovery_beacon, configuration_beacon, reset_beacon, data_frame, acknowledgment_frame, command_frame};
+ghost use Rattle.frame.specs.Codes.{state_for, order_for};
+ghost use Rattle.frame.specs.Messages.{online_beacon, management_beacon, reset_beacon, data_frame, acknowledgment_frame, command_frame, beacon_octets, command_octets};
 ghost use Rattle.frame.specs.Octets.{little};
 ghost use Rattle.frame.specs.Widths.{width_of};
-ghost use Rattle.frame.specs.Writing.{fitting, left_by, Written};
+ghost use Rattle.frame.specs.Writing.{joined, fitting, left_by, Written};
 
+use crate::codes::{Identifier, State, Subtype};
 use crate::faults::{Fault, Refusal};
-use crate::frames::{Acknowledged, BeaconHeader, Command, Configuration};
+use crate::frames::{Acknowledged, BeaconHeader, Command, Configuration, ManagementState};
 use crate::management::ManagementWidth;
 
-// The control octets: frame type 4, and the subtype in bits 6 and 7.
-const BEACON: u8 = 0x04;
-
-const DATA: u8 = 0x44;
-
-const ACKNOWLEDGMENT: u8 = 0x84;
-
-const COMMAND: u8 = 0xc4;
-
-// Writes three runs of octets one after another, if the buffer has room for all of them.
-fn put(first: &[u8], second: &[u8], third: &[u8], buffer: &mut [u8]) -> Result<usize, Fault>
-    requires { length first.now + length second.now + length third.now ≤ 1000 }
-    ensures answer { result ≡ fitting (first.now ++ (second.now ++ third.now)) buffer.old }
-    ensures memory { buffer.new ≡ left_by result (first.now ++ (second.now ++ third.now)) buffer.old }
+// The length of octets in parts, if the buffer has room for all of them.
+#[tactic(auto, using(crate::proofs::Parts::part_within))]
+fn fit(parts: &[&[u8]], buffer: &[u8]) -> Result<usize, Fault>
+    ensures { result ≡ fitting (joined parts.now) buffer.now }
 {
-    let middle = first.len() + second.len();
-    let length = middle + third.len();
-    if buffer.len() < length {
-        return Err(Refusal::Space.at(0));
+    let mut left = buffer.len();
+    for part in parts {
+        left = left.checked_sub(part.len()).ok_or(Refusal::Space.at(0))?;
     }
-    buffer[0..first.len()].copy_from_slice(first);
-    buffer[first.len()..middle].copy_from_slice(second);
-    buffer[middle..length].copy_from_slice(third);
+    Ok(buffer.len() - left)
+}
+
+// Writes octets in parts, one after another at the buffer's start, if it has room for all of them.
+#[tactic(auto, using(crate::proofs::Parts::part_within))]
+pub fn put(parts: &[&[u8]], buffer: &mut [u8]) -> Result<usize, Fault>
+    ensures answer { result ≡ fitting (joined parts.now) buffer.old }
+    ensures memory { buffer.new ≡ left_by result (joined parts.now) buffer.old }
+{
+    let length = fit(parts, buffer)?;
+    let mut at = 0;
+    for part in parts {
+        buffer[at..at + part.len()].copy_from_slice(part);
+        at += part.len();
+    }
     Ok(length)
 }
 
-// Writes an Online beacon; a bitmap has at most 32 octets.
+// The header is what a beacon says and the buffer where it goes: a struct of both, made for each call, would be no plainer.
+
+// Writes an Online beacon; a bitmap has at most 32 octets. A longer one is refused at the frame's end: no plainer by the reader's `at_most`, whose place is the
+// length that it tests.
 pub fn write_online_beacon(
     header: BeaconHeader,
     timeslots: u8,
@@ -47,37 +53,23 @@ pub fn write_online_beacon(
     if bitmap.len() > 32 {
         return Err(Refusal::Surplus.at(38));
     }
-    put(&beacon_head(header, 0), &[timeslots], bitmap, buffer)
-}
-
-// Writes a Discovery beacon.
-pub fn write_discovery_beacon(
-    header: BeaconHeader,
-    management: ManagementWidth,
-    buffer: &mut [u8],
-) -> Result<usize, Fault>
-    ensures { Written (discovery_beacon header (width_of management)) buffer.old result buffer.new }
-{
     put(
-        &beacon_head(header, 4 + 32 * management.timeslots()),
-        &[],
-        &[],
+        &[&beacon_head(header, State::Online, 0), &[timeslots], bitmap],
         buffer,
     )
 }
 
-// Writes a Configuration beacon.
-pub fn write_configuration_beacon(
+// Writes a beacon of a state that has management timeslots.
+pub fn write_management_beacon(
     header: BeaconHeader,
+    state: ManagementState,
     management: ManagementWidth,
     buffer: &mut [u8],
 ) -> Result<usize, Fault>
-    ensures { Written (configuration_beacon header (width_of management)) buffer.old result buffer.new }
+    ensures { Written (management_beacon state header (width_of management)) buffer.old result buffer.new }
 {
     put(
-        &beacon_head(header, 6 + 32 * management.timeslots()),
-        &[],
-        &[],
+        &[&beacon_head(header, state.into(), management.into())],
         buffer,
     )
 }
@@ -86,46 +78,57 @@ pub fn write_configuration_beacon(
 pub fn write_reset_beacon(header: BeaconHeader, buffer: &mut [u8]) -> Result<usize, Fault>
     ensures { Written (reset_beacon header) buffer.old result buffer.new }
 {
-    put(&beacon_head(header, 7), &[], &[], buffer)
+    put(&[&beacon_head(header, State::Reset, 0)], buffer)
 }
 
-// The five octets that every beacon starts with.
-fn beacon_head(header: BeaconHeader, flags: u8) -> [u8; 5]
-    ensures { result ≡ 4 ∷ flags ∷ header.coordinator ∷ header.sequence ∷ header.size ∷ [] }
+// The five octets that every beacon starts with: fixed memory, as the writers have no heap.
+fn beacon_head(header: BeaconHeader, state: State, management: u8) -> [u8; 5]
+    requires { management ≤ 7 }
+    ensures { result ≡ beacon_octets (state_for state) management header [] }
 {
     [
-        BEACON,
-        flags,
+        Subtype::Beacon.control(),
+        state as u8 + 32 * management,
         header.coordinator,
         header.sequence,
         header.size,
     ]
 }
 
-// Writes a data frame; a payload has at most 124 octets.
+// Writes a data frame; a payload has at most 124 octets. A longer one is refused as a longer bitmap is.
+#[tactic(auto, using(crate::proofs::Returns::written))]
 pub fn write_data(payload: &[u8], buffer: &mut [u8]) -> Result<usize, Fault>
     ensures { Written (data_frame payload.now) buffer.old result buffer.new }
 {
     if payload.len() > 124 {
         return Err(Refusal::Surplus.at(125));
     }
-    put(&[DATA], &[], payload, buffer)
+    put(&[&[Subtype::Data.control()], payload], buffer)
 }
 
 // Writes an acknowledgment.
 pub fn write_acknowledgment(acknowledged: Acknowledged, buffer: &mut [u8]) -> Result<usize, Fault>
     ensures { Written (acknowledgment_frame acknowledged) buffer.old result buffer.new }
 {
-    put(&[ACKNOWLEDGMENT, acknowledged.code()], &[], &[], buffer)
+    put(
+        &[&[Subtype::Acknowledgment.control(), acknowledged.into()]],
+        buffer,
+    )
 }
 
 // Writes a command.
+#[tactic(auto, using(crate::proofs::Returns::written))]
 pub fn write_command(command: Command, buffer: &mut [u8]) -> Result<usize, Fault>
     ensures { Written (command_frame command) buffer.old result buffer.new }
 {
     match command {
         Command::DiscoverResponse { address, wish } => {
-            put_command(0x0d, address, &[wish.width, wish.direction.code()], buffer)
+            put_command(
+                Identifier::DiscoverResponse,
+                address,
+                &[wish.width, wish.direction.into()],
+                buffer,
+            )
         }
         Command::ConfigurationStatus {
             address,
@@ -134,27 +137,44 @@ pub fn write_command(command: Command, buffer: &mut [u8]) -> Result<usize, Fault
             first,
             width,
         } => {
-            let more = [simple, wish.width, wish.direction.code(), first, width];
-            put_command(0x0e, address, &more, buffer)
+            let more = [simple, wish.width, wish.direction.into(), first, width];
+            put_command(Identifier::ConfigurationStatus, address, &more, buffer)
         }
         Command::ConfigurationRequest {
             address,
             configuration,
-        } => put_command(0x0f, address, &configuration_octets(configuration), buffer),
+        } => put_command(
+            Identifier::ConfigurationRequest,
+            address,
+            &configuration_octets(configuration),
+            buffer,
+        ),
     }
 }
 
 // Writes a command: control, identifier, the device's full address, and the other parameters.
-fn put_command(identifier: u8, address: u64, more: &[u8], buffer: &mut [u8]) -> Result<usize, Fault>
+fn put_command(
+    identifier: Identifier,
+    address: u64,
+    more: &[u8],
+    buffer: &mut [u8],
+) -> Result<usize, Fault>
     requires { length more.now ≤ 10 }
-    ensures answer { result ≡ fitting (196 ∷ identifier ∷ (little 8 address ++ more.now)) buffer.old }
-    ensures memory { buffer.new ≡ left_by result (196 ∷ identifier ∷ (little 8 address ++ more.now)) buffer.old }
+    ensures answer { result ≡ fitting (command_octets (order_for identifier) address more.now) buffer.old }
+    ensures memory { buffer.new ≡ left_by result (command_octets (order_for identifier) address more.now) buffer.old }
     ensures fits { address < 2 ^ 64 }
 {
-    put(&[COMMAND, identifier], &address.to_le_bytes(), more, buffer)
+    put(
+        &[
+            &[Subtype::Command.control(), identifier.into()],
+            &address.to_le_bytes(),
+            more,
+        ],
+        buffer,
+    )
 }
 
-// A configuration as a request carries it: the third octet, for management, is written 0.
+// A configuration as a request carries it, in fixed memory: the third octet, for management, is written 0.
 fn configuration_octets(c: Configuration) -> [u8; 10]
     ensures { result ≡ c.simple ∷ c.channel ∷ 0 ∷ c.size ∷ c.first ∷ c.width ∷ c.retransmission ∷ c.uplink ∷ c.timeslots ∷ c.coordinator ∷ [] }
 {

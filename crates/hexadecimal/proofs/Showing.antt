@@ -1,22 +1,8 @@
 -- The text of octets.
-use Rattle.std.proofs.Common.{◌≡◌, ℕ, ◌+◌, ◌/◌, ◌%◌, ◌<◌, ◌≤◌, false, eqb, List, [], ◌∷◌, ◌++◌, length, get_or, take, sym, refl, ap, ◌∙◌, arith}
-use lib.Utf8.{encode}
-use Rattle.std.proofs.lemmas.Str.Ascii.{encode_ascii}
+use Rattle.std.proofs.Common.{◌≡◌, ℕ, ◌+◌, ◌<◌, ◌≤◌, false, eqb, List, [], ◌∷◌, ◌++◌, length, get_or, take, sym, refl, ap, ◌∙◌}
 use Rattle.std.proofs.lemmas.List.{take_more, take_all}
 use Rattle.std.proofs.lemmas.Bool.{true≢false}
-use Rattle.std.proofs.lemmas.Bool.Decides.{nat_tests}
-use Rattle.hexadecimal.specs.Grammar.{digit_code, octet_digits, spelling, text_of}
-
-code_ascii : (d : ℕ) → d < 16 → digit_code d < 128
-code_ascii d h = grind (arith, nat_tests)
-
--- the digits are ASCII, so each is its own code
-pub encoded : (octet a b : ℕ) → octet < 256 → a ≡ digit_code (octet / 16) → b ≡ digit_code (octet % 16) → encode a ++ encode b ≡ octet_digits octet
-encoded octet a b h p q =
-    let high = encode_ascii (digit_code (octet / 16)) (code_ascii (octet / 16) (omega arith)) in
-    let low = encode_ascii (digit_code (octet % 16)) (code_ascii (octet % 16) (omega arith)) in
-    ap (λ x. encode x ++ encode b) p ∙ ap (λ x. encode (digit_code (octet / 16)) ++ encode x) q ∙
-    ap (λ l. l ++ encode (digit_code (octet % 16))) high ∙ ap (λ l. digit_code (octet / 16) ∷ l) low
+use Rattle.hexadecimal.specs.Grammar.{octet_digits, spelling, text_of}
 
 spelling_append : (xs ys : List ℕ) → spelling (xs ++ ys) ≡ spelling xs ++ spelling ys
 spelling_append [] ys = refl

@@ -6,12 +6,7 @@ ghost use Rattle.hexadecimal.specs.Grammar.{digit_value, octet_of, octets_in, di
 pub(crate) fn value_of(byte: u8) -> Option<u8>
     ensures { result ≡ digit_value byte }
 {
-    match byte {
-        b'0'..=b'9' => Some(byte - b'0'),
-        b'a'..=b'f' => Some(byte - b'a' + 10),
-        b'A'..=b'F' => Some(byte - b'A' + 10),
-        _ => None,
-    }
+    char::from(byte).to_digit(16).map(|value| value as u8)
 }
 
 // The octet that two digits stand for.

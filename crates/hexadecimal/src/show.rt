@@ -1,9 +1,7 @@
 // Octets as text.
-ghost use Rattle.std.specs.Prelude.{◌≡◌, Some};
-ghost use Rattle.std.specs.Fmt.{WritesOnOk};
-ghost use Rattle.hexadecimal.specs.Grammar.{octet_digits, text_of};
+ghost use Rattle.std.specs.Prelude.{Some};
+ghost use Rattle.hexadecimal.specs.Grammar.{text_of};
 
-use crate::digit::digits;
 use std::fmt;
 
 // Octets to show: in lower-case hexadecimal without spaces, and none as `-`.
@@ -17,18 +15,9 @@ impl fmt::Display for Hex<'_> {
         if self.0.is_empty() {
             return f.write_str("-");
         }
-        for octet in self.0 {
-            write_octet(f, *octet)?;
+        for &octet in self.0 {
+            write!(f, "{octet:02x}")?;
         }
         Ok(())
     }
-}
-
-// Writes the two digits of an octet.
-fn write_octet<W: fmt::Write>(f: &mut fmt::Formatter<W>, octet: u8) -> fmt::Result
-    ensures { WritesOnOk W.write_str_gives f.old result (octet_digits octet) f.new }
-{
-    let [high, low] = digits(octet);
-    f.write_char(char::from(high))?;
-    f.write_char(char::from(low))
 }

@@ -3,9 +3,9 @@
 
 use capture::Report;
 use frame::{
-    Acknowledged, BeaconHeader, Command, Configuration, Direction, Fault, ManagementWidth, Wish,
-    read, write_acknowledgment, write_command, write_configuration_beacon, write_data,
-    write_discovery_beacon, write_online_beacon, write_reset_beacon,
+    Acknowledged, BeaconHeader, Command, Configuration, Direction, Fault, ManagementState,
+    ManagementWidth, Wish, read, write_acknowledgment, write_command, write_data,
+    write_management_beacon, write_online_beacon, write_reset_beacon,
 };
 use hexadecimal::Hex;
 use std::io;
@@ -27,12 +27,7 @@ fn show(rt: &HostRuntime, answer: Result<usize, Fault>, buffer: &[u8]) -> io::Re
 
 // How the first octets of a buffer read.
 fn report(buffer: &[u8], length: usize) -> Report<'_> {
-    let octets = if length <= buffer.len() {
-        &buffer[0..length]
-    } else {
-        buffer
-    };
-    match read(octets) {
+    match read(buffer.get(..length).unwrap_or(buffer)) {
         Ok(frame) => Report::Sound(frame),
         Err(fault) => Report::Refused(fault),
     }
@@ -40,14 +35,12 @@ fn report(buffer: &[u8], length: usize) -> Report<'_> {
 
 fn beacons(rt: &HostRuntime, buffer: &mut [u8]) -> io::Result<()> {
     show(rt, write_online_beacon(HEADER, 8, &[0x25], buffer), buffer)?;
-    for timeslots in [1, 7] {
-        if let Some(width) = ManagementWidth::new(timeslots) {
-            show(rt, write_discovery_beacon(HEADER, width, buffer), buffer)?;
-            show(
-                rt,
-                write_configuration_beacon(HEADER, width, buffer),
-                buffer,
-            )?;
+    for timeslots in [1u8, 7] {
+        if let Ok(width) = ManagementWidth::try_from(timeslots) {
+            for state in [ManagementState::Discovery, ManagementState::Configuration] {
+                let answer = write_management_beacon(HEADER, state, width, buffer);
+                show(rt, answer, buffer)?;
+            }
         }
     }
     show(rt, write_reset_beacon(HEADER, buffer), buffer)

@@ -112,10 +112,10 @@ fn between(byte: u8) -> Progress
     ensures { (t s : List ℕ) → octets_in t ≡ Some s → (t ≡ [] → byte ≢ 35) → Stands result (t ++ byte ∷ []) s }
 {
     if byte == b' ' {
-        return Progress::Whole;
-    }
-    match value_of(byte) {
-        Some(_) => Progress::Half(byte),
-        None => Progress::Broken,
+        Progress::Whole
+    } else if value_of(byte).is_some() {
+        Progress::Half(byte)
+    } else {
+        Progress::Broken
     }
 }
