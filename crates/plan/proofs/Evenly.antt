@@ -48,9 +48,6 @@ module _ (ns : Numbers) (gs : EvenGrants) where
   pub even_keeps : Rules plan → (i : ℕ) → 1 ≤ i → i ≤ gs.count → GrantKeeps ns (nth i)
   even_keeps r i low high = r.own i (nth i) (even_at i low high)
 
-  pub even_few : Rules plan → gs.count ≤ 128
-  even_few r = let c = even_count in let f = r.framed.few in omega arith
-
   -- of two grants with timeslots, the earlier ends before the later begins, so that they never clash
   never_clash : (j i : ℕ) → 1 ≤ j → j < i → 1 ≤ gs.width → Clash (nth j) (nth i) → ⊥
   never_clash j i low below some (inl e) = omega arith

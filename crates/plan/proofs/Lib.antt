@@ -1,3 +1,4 @@
 pub mod Evenly
 pub mod Lawful
 pub mod Searched
+pub mod Listing

@@ -172,7 +172,7 @@ breaking_at ns gs k g below e =
     ∙ ap (λ (g : Grant). not (grant_kept ns g) || clashing_before gs k g) e
 
 -- whether one of the grants before it clashes with a grant, by their places
-pub clashing_tells : (gs : List Grant) (n : ℕ) (g : Grant) → n ≤ length gs → Decides (clashing_before gs n g) (ClashIn (take (n - 0) gs) g)
+pub clashing_tells : (gs : List Grant) (n : ℕ) (g : Grant) → n ≤ length gs → Decides (clashing_before gs n g) (ClashIn (take n gs) g)
 unfolding clashing_before
 clashing_tells gs n g room = (
   λ e.
@@ -181,14 +181,14 @@ clashing_tells gs n g room = (
       let f = subst (First p n) there.1 (first_tells p n) in
       let k = there.0 in
       let hit = (clash_decided (slice_index_or gs (k - 1) blank) g).0 (sym (test_number gs (λ h. clashing h g) k f.0 (omega arith)) ∙ f.2) in
-      (k - 1, omega arith, subst (λ (h : Grant). Clash h g) (sym (get_or-take (n - 0) gs (k - 1) blank (omega arith))) hit),
+      (k - 1, omega arith, subst (λ (h : Grant). Clash h g) (sym (get_or-take n gs (k - 1) blank (omega arith))) hit),
   λ c.
       elim (cases_Bool (is_some (first_of p n))) [
         | inl e ↦ e
         | inr e ↦
             let r = reach in
             let none = subst (First p n) (is_missing _ e) (first_tells p n) in
-            let hit = subst (λ (h : Grant). Clash h g) (get_or-take (n - 0) gs c.0 blank (omega arith)) c.2 in
+            let hit = subst (λ (h : Grant). Clash h g) (get_or-take n gs c.0 blank (omega arith)) c.2 in
             absurd (both_ways _ (sym (test_at gs (λ h. clashing h g) c.0 (omega arith)) ∙ none (c.0 + 1) (omega arith) (omega arith)) ((clash_decided (slice_index_or gs c.0 blank) g).1 hit))
       ],
 )
@@ -196,5 +196,5 @@ clashing_tells gs n g room = (
     p : ℕ → Bool
     p = λ j. passing (λ h. clashing h g) (numbered_in gs j)
 
-    reach : length (take (n - 0) gs) ≡ n
-    reach = let z : n - 0 ≡ n = omega arith in rw z (length-take-le n gs room)
+    reach : length (take n gs) ≡ n
+    reach = length-take-le n gs room

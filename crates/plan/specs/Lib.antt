@@ -10,3 +10,4 @@ pub mod Judged
 pub mod Firsts
 pub mod Numbered
 pub mod Decisions
+pub mod Steps

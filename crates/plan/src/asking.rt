@@ -5,6 +5,7 @@ ghost use Rattle.plan.specs.Answers.{passing, holder_of, number_with, with_grant
 ghost use Rattle.plan.specs.Laws.{AtMostOneHolder, AddressesDiffer, NamesHolder, NamesAddressed, Alike};
 
 use super::grant::Grant;
+use super::grants::Grants;
 use super::slots::SlotPlan;
 
 // The number of the grant with a full address, or none. No two grants share a full or a simple address.
@@ -13,22 +14,9 @@ pub fn grant_with_address<P: SlotPlan>(plan: &P, address: u64) -> Option<usize>
     ensures names { NamesAddressed (P.SlotPlan.meaning plan.now) address result }
     ensures differ { AddressesDiffer (P.SlotPlan.meaning plan.now) }
 {
-    for before in 0..plan.count() {
-        if has_address(plan.grant(before + 1), address) {
-            return Some(before + 1);
-        }
-    }
-    None
-}
-
-// Whether there is a grant, and it has a full address.
-fn has_address(grant: Option<Grant>, address: u64) -> bool
-    ensures { result ≡ passing (λ g. nat_eq g.address address) grant }
-{
-    match grant {
-        Some(g) => g.address == address,
-        None => false,
-    }
+    Grants::of(plan)
+        .find(|(_, grant)| grant.address == address)
+        .map(|(i, _)| i)
 }
 
 // The number of the grant that holds base timeslot t, and the grant, or none. At most one grant holds a timeslot.
@@ -37,16 +25,8 @@ pub fn grant_holding<P: SlotPlan>(plan: &P, t: u8) -> Option<(usize, Grant)>
     ensures names { NamesHolder (P.SlotPlan.meaning plan.now) t (option_map (λ x. x.0) result) }
     ensures one { AtMostOneHolder (P.SlotPlan.meaning plan.now) }
 {
-    held(plan, t)
-}
-
-// What a plan answers when it is asked for the holder of base timeslot t, and then for that grant.
-fn held<P: SlotPlan>(plan: &P, t: u8) -> Option<(usize, Grant)>
-    ensures { result ≡ with_grant (P.SlotPlan.meaning plan.now) (holder_of (P.SlotPlan.meaning plan.now) t) }
-{
-    let i = plan.holder(t)?;
-    let grant = plan.grant(i)?;
-    Some((i, grant))
+    plan.holder(t)
+        .and_then(|i| plan.grant(i).map(|grant| (i, grant)))
 }
 
 // Whether two plans answer alike when they are asked for their numbers, their count, grant i and the holder of base timeslot t.

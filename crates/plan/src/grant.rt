@@ -1,10 +1,9 @@
 // The numbers and the grants of a slot plan.
-ghost use Rattle.std.specs.Prelude.{◌≡◌, ◌+◌, ◌<◌, Decides};
+ghost use Rattle.std.specs.Prelude.{◌≡◌, ◌+◌, Decides};
 ghost use Rattle.plan.specs.Rules.{NumbersKeep, GrantKeeps, Clash, Holds, LiesIn, direction_of, carried, bitmap_octets};
-ghost use Rattle.frame.specs.Refusals.{fault};
-ghost use Rattle.frame.specs.declared.faults.Refusal.TheVariants as refusal;
+ghost use Rattle.plan.specs.Places.{ClashIn};
 
-use frame::{Direction, Fault, Refusal};
+use frame::Direction;
 
 // The numbers of a slot plan.
 #[derive(Clone, Copy, Debug, PartialEq, Eq)]
@@ -48,6 +47,7 @@ impl Numbers {
         self.timeslots <= 254
             && self.uplink <= self.timeslots
             && self.retransmission <= self.uplink / 2
+            // Tried with `contains` of a range: three of these in one chain leave a goal open.
             && self.size >= 1
             && self.size <= 124
             && self.management >= 1
@@ -61,7 +61,7 @@ impl Numbers {
     pub fn bitmap_octets(self) -> usize
         ensures { result ≡ bitmap_octets self }
     {
-        (self.timeslots.saturating_sub(self.retransmission) as usize).div_ceil(8)
+        usize::from(self.timeslots.saturating_sub(self.retransmission)).div_ceil(8)
     }
 }
 
@@ -81,24 +81,31 @@ impl Grant {
     fn lies_after(self, after: u8, last: u8) -> bool
         ensures { Decides result (LiesIn (after + 1) last self) }
     {
-        self.first > after && self.first as u16 + self.width as u16 <= last as u16 + 1
+        self.first > after && self.end() <= u16::from(last) + 1
     }
 
     // Whether the two share a full address, a simple address or a base timeslot.
     pub fn clashes(self, other: Grant) -> bool
         ensures { Decides result (Clash self other) }
     {
-        let start = self.first.max(other.first) as u16;
+        let start = u16::from(self.first.max(other.first));
         self.address == other.address
             || self.simple == other.simple
             || start < self.end().min(other.end())
+    }
+
+    // Whether one of some other grants clashes with it.
+    pub(crate) fn clashes_with_one(self, others: &[Grant]) -> bool
+        ensures { Decides result (ClashIn others.now self) }
+    {
+        others.iter().any(|other| other.clashes(self))
     }
 
     // The timeslot after the last one.
     fn end(self) -> u16
         ensures { result ≡ self.first + self.width }
     {
-        self.first as u16 + self.width as u16
+        u16::from(self.first) + u16::from(self.width)
     }
 
     // The direction: uplink where the grant begins among the uplink timeslots.
@@ -116,21 +123,13 @@ impl Grant {
     pub fn carries(self, size: u8) -> usize
         ensures { result ≡ carried size self }
     {
-        (self.width as usize * size as usize).min(124)
+        (usize::from(self.width) * usize::from(size)).min(124)
     }
 
     // Whether base timeslot t is one of the grant's.
     pub fn holds(self, t: u8) -> bool
         ensures { Decides result (Holds self t) }
     {
-        self.first <= t && (t as u16) < self.end()
+        self.first <= t && u16::from(t) < self.end()
     }
-}
-
-// The fault at the grant that stands behind so many others: the first that breaks a rule.
-pub(crate) fn fault_behind(before: usize) -> Fault
-    requires { before < 128 }
-    ensures { result ≡ fault refusal.Plan (before + 1) }
-{
-    Refusal::Plan.at(before + 1)
 }

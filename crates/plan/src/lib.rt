@@ -4,6 +4,7 @@
 mod asking;
 mod even;
 mod grant;
+mod grants;
 mod listed;
 mod slots;
 #[cfg(test)]
@@ -13,5 +14,6 @@ pub use asking::{answer_alike, grant_holding, grant_with_address};
 pub use even::EvenPlan;
 pub use even::grants::EvenGrants;
 pub use grant::{Grant, Numbers};
+pub use grants::Grants;
 pub use listed::ListedPlan;
 pub use slots::SlotPlan;

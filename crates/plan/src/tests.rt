@@ -64,6 +64,8 @@ fn a_listed_plan_answers(rt: HostRuntime) -> Result<(), Fail> {
         assert_eq!(rt; plan.holder(t), holder);
     }
     assert_eq!(rt; grant_with_address(&plan, 18), Some(3));
+    assert_eq!(rt; Grants::of(&plan).nth(2), Some((3, grant(18, 3, 5))));
+    assert_eq!(rt; Grants::of(&plan).nth(6), None);
     Ok(())
 }
 

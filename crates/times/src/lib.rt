@@ -14,7 +14,7 @@ pub fn frame_symbols(octets: u16) -> u32
     ensures { result ≡ frame_symbols octets }
 {
     let spacing = if octets <= 18 { 12 } else { 40 };
-    12 + 2 * octets as u32 + spacing
+    12 + 2 * u32::from(octets) + spacing
 }
 
 // The symbols of a base timeslot, which fits a payload of `size` octets.
@@ -22,7 +22,7 @@ pub fn timeslot_symbols(size: u8) -> u32
     ensures answer { result ≡ timeslot_symbols size }
     ensures known { map timeslot_symbols (2 ∷ 15 ∷ 16 ∷ 20 ∷ []) ≡ 34 ∷ 60 ∷ 90 ∷ 98 ∷ [] }
 {
-    frame_symbols(size as u16 + 3)
+    frame_symbols(u16::from(size) + 3)
 }
 
 // The symbols of the beacon timeslot, which fits the Online beacon.
@@ -33,6 +33,7 @@ pub fn beacon_symbols(numbers: Numbers) -> u32
 }
 
 // When timeslot t starts and ends, counted from the start of the beacon; refused where the plan has no such timeslot.
+// A rule of the project fixes the pair of symbol counts.
 pub fn slot_time<P: SlotPlan>(plan: &P, t: u8) -> Result<(u32, u32), Fault>
     ensures answer { result ≡ slot_span (P.SlotPlan.meaning plan.now).numbers t }
     ensures follow { FollowEachOther (P.SlotPlan.meaning plan.now).numbers }
@@ -49,10 +50,8 @@ pub fn grant_time<P: SlotPlan>(plan: &P, i: usize) -> Option<(u32, u32)>
     ensures answer { result ≡ grant_span (P.SlotPlan.meaning plan.now).numbers (grant_at (P.SlotPlan.meaning plan.now) i) }
     ensures inside { FullFramesEndInside (P.SlotPlan.meaning plan.now) }
 {
-    match plan.grant(i) {
-        Some(grant) => Some(span(plan.numbers(), grant.first, grant.width)),
-        None => None,
-    }
+    plan.grant(i)
+        .map(|grant| span(plan.numbers(), grant.first, grant.width))
 }
 
 // When `width` timeslots start and end, of which the first has this number.
@@ -61,8 +60,8 @@ fn span(numbers: Numbers, first: u8, width: u8) -> (u32, u32)
 {
     let slot = timeslot_symbols(numbers.size);
     let beacon = beacon_symbols(numbers);
-    let before = (first as u32).saturating_sub(1);
-    let last = (first as u32 + width as u32).saturating_sub(1);
+    let before = u32::from(first).saturating_sub(1);
+    let last = (u32::from(first) + u32::from(width)).saturating_sub(1);
     (beacon + before * slot, beacon + last * slot)
 }
 
@@ -73,12 +72,12 @@ pub fn superframe_symbols<P: SlotPlan>(plan: &P) -> u32
     ensures known { microseconds (superframe_symbols sixteen_of_two) ≡ 9408 }
 {
     let numbers = plan.numbers();
-    beacon_symbols(numbers) + numbers.timeslots as u32 * timeslot_symbols(numbers.size)
+    beacon_symbols(numbers) + u32::from(numbers.timeslots) * timeslot_symbols(numbers.size)
 }
 
 // Symbols as microseconds.
 pub fn to_microseconds(symbols: u32) -> u64
     ensures { result ≡ microseconds symbols }
 {
-    16 * symbols as u64
+    16 * u64::from(symbols)
 }

@@ -1,13 +1,12 @@
 // Making a listed plan, and asking it.
-ghost use Rattle.std.specs.Prelude.{◌≡◌, ℕ, ◌-◌, ◌<◌, ◌≤◌, ◌&&◌, length, IfOk, if◌then◌else◌, Some, None, Decides, nat_le, slice_index_or};
+ghost use Rattle.std.specs.Prelude.{◌≡◌, IfOk};
 ghost use Rattle.std.specs.Result.{result_err};
-ghost use Rattle.plan.specs.Places.{blank, ClashIn};
-ghost use Rattle.plan.specs.Rules.{plan_of, Holds};
+ghost use Rattle.plan.specs.Rules.{plan_of};
 ghost use Rattle.plan.specs.Verdicts.{verdict, OnlyVerdict};
 ghost use Rattle.plan.specs.ListedPlans.{listed_meaning};
 ghost use Rattle.plan.specs.Judged.{lawful};
 
-use super::super::grant::{Grant, Numbers, fault_behind};
+use super::super::grant::{Grant, Numbers};
 use super::super::slots::SlotPlan;
 use super::ListedPlan;
 use frame::{Fault, Refusal};
@@ -22,49 +21,14 @@ impl ListedPlan {
         if !numbers.keep() || grants.len() > 128 {
             return Err(Refusal::Plan.at(0));
         }
+        // A rule of the project fixes this loop over the host's grants with their index.
         for (i, g) in grants.iter().enumerate() {
-            if !g.keeps(numbers) || clashes_with_one(&grants[0..i], *g) {
-                return Err(fault_behind(i));
+            if !g.keeps(numbers) || g.clashes_with_one(&grants[..i]) {
+                return Err(Refusal::Plan.at(i + 1));
             }
         }
         Ok(ListedPlan { numbers, grants })
     }
-}
-
-// Whether one of the earlier grants shares something with a grant.
-fn clashes_with_one(earlier: &[Grant], grant: Grant) -> bool
-    ensures { Decides result (ClashIn earlier.now grant) }
-{
-    for other in earlier {
-        if other.clashes(grant) {
-            return true;
-        }
-    }
-    false
-}
-
-// The index of the first grant that holds base timeslot t, or the number of grants where none does.
-fn first_holding(grants: &[Grant], t: u8) -> usize
-    ensures within { result ≤ length grants.now }
-    ensures before { (k : ℕ) → k < result → Holds (slice_index_or grants.now k blank) t → ⊥ }
-    ensures found { result < length grants.now → Holds (slice_index_or grants.now result blank) t }
-{
-    for (i, g) in grants.iter().enumerate() {
-        if g.holds(t) {
-            return i;
-        }
-    }
-    grants.len()
-}
-
-// Grant i of a list, from 1 on, or none.
-fn numbered(grants: &[Grant], i: usize) -> Option<Grant>
-    ensures { result ≡ (if nat_le 1 i && nat_le i (length grants.now) then Some (slice_index_or grants.now (i - 1) blank) else None) }
-{
-    if i == 0 || i > grants.len() {
-        return None;
-    }
-    Some(grants[i - 1])
 }
 
 impl SlotPlan for ListedPlan {
@@ -81,15 +45,10 @@ impl SlotPlan for ListedPlan {
     }
 
     fn grant(&self, i: usize) -> Option<Grant> {
-        numbered(&self.grants, i)
+        self.grants.get(i.checked_sub(1)?).copied()
     }
 
     fn holder(&self, t: u8) -> Option<usize> {
-        let i = first_holding(&self.grants, t);
-        if i < self.grants.len() {
-            Some(i + 1)
-        } else {
-            None
-        }
+        self.grants.iter().position(|g| g.holds(t)).map(|i| i + 1)
     }
 }

@@ -1,10 +1,10 @@
-use Rattle.std.proofs.Common.{◌≡◌, ℕ, Some, None, Option, sym, refl, ap, ◌∙◌, subst}
+use Rattle.std.proofs.Common.{◌≡◌, ℕ, Some, None, Option, sym, refl, ap, ◌∙◌, subst, rules}
 use Rattle.std.specs.Option.{option_map}
 use Rattle.plan.specs.declared.grant.Grant.{Grant}
 use Rattle.plan.specs.Rules.{PlanMeaning}
 use Rattle.plan.specs.Answers.{holder_of, with_grant}
 use Rattle.plan.specs.Laws.{NamesHolder}
-use Rattle.plan.proofs.Lawful.{at_most_one_holder, names_holder}
+use Rattle.plan.proofs.Lawful.{names_holder}
 use Rattle.plan.proofs.asking.grant_holding.Goals as goal
 
 -- the number in an answer
@@ -16,14 +16,9 @@ kept : (m : PlanMeaning) (t : ℕ) (o : Option ℕ) → NamesHolder m t o → nu
 kept m t None names = refl
 kept m t (Some i) names = ap (λ (x : Option Grant). number (option_map (λ g. (i, g)) x)) ((names i).0 refl).1
 
-pub returns : goal.returns
-returns g c =
+pub returns-clause-names : goal.returns-clause-names
+returns-clause-names g c =
     let m = g.P.SlotPlan.meaning c.args.plan.now in
-    let rules = g.met.P.SlotPlan.keeps c.args.plan.now in
-    let named = names_holder m rules c.args.t in
-    let e = ap number c.held.ensures ∙ kept m c.args.t (holder_of m c.args.t) named in
-    record {
-      answer = c.held.ensures;
-      names = subst (NamesHolder m c.args.t) (sym e) named;
-      one = at_most_one_holder m rules;
-    }
+    let named = names_holder m (g.met.P.SlotPlan.keeps c.args.plan.now) c.args.t in
+    let answer : c.and_then.result ≡ with_grant m (holder_of m c.args.t) = search rules in
+    subst (NamesHolder m c.args.t) (sym (ap number answer ∙ kept m c.args.t (holder_of m c.args.t) named)) named

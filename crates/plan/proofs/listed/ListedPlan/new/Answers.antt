@@ -1,4 +1,4 @@
-use Rattle.std.proofs.Common.{◌≡◌, ℕ, ◌+◌, ◌-◌, ◌<◌, ◌≤◌, Bool, true, false, List, length, get_or, take, is_some, Some, None, vec_items, Decides, sym, refl, ap, ◌∙◌, subst, arith}
+use Rattle.std.proofs.Common.{◌≡◌, ℕ, ◌+◌, ◌<◌, ◌≤◌, Bool, true, false, List, length, get_or, take, is_some, Some, None, vec_items, Decides, sym, refl, ap, ◌∙◌, subst, arith}
 use Rattle.std.proofs.lemmas.Bool.{or_left, or_right, or_from, not_from_true, not_from_false}
 use Rattle.std.proofs.lemmas.Bool.Decides.{not_from_Decides, same_from_decides}
 use Rattle.plan.specs.declared.grant.Grant.{Grant}
@@ -23,7 +23,7 @@ returns-then-not-keep c =
     record { answer = e; kept = tt; only = only_verdict m _ e }
 
 -- whether the next grant breaks a rule, by the two tests of it
-module _ (ns : Numbers) (gs hs : List Grant) (k : ℕ) (below : k < length gs) (same : hs ≡ take (k - 0) gs) (kept : Bool) (decided : Decides kept (GrantKeeps ns (get_or gs k blank))) where
+module _ (ns : Numbers) (gs hs : List Grant) (k : ℕ) (below : k < length gs) (same : hs ≡ take k gs) (kept : Bool) (decided : Decides kept (GrantKeeps ns (get_or gs k blank))) where
   abbrev g : Grant
   g = get_or gs k blank
 
@@ -53,18 +53,18 @@ returns-then-not-keeps c =
     let k = c.loop-i.i in
     let sound = framed ns gs _ c.keep.ensures c.if-not-keep.false (omega arith) in
     let bad : breaking (plan_of ns gs) (k + 1) ≡ true = elim c.then-not-keeps.branch [
-      | then-not-keeps-via-then-not-keeps w ↦ breaks_alone ns gs (take (k - 0) gs) k c.loop-i-test.true refl _ c.keeps.ensures w.if-not-keeps.true
+      | then-not-keeps-via-then-not-keeps w ↦ breaks_alone ns gs (take k gs) k c.loop-i-test.true refl _ c.keeps.ensures w.if-not-keeps.true
       | then-not-keeps-via-else-not-keeps+then-clashes_with_one w ↦
-          breaks_with ns gs (take (k - 0) w.deref.result.now) k c.loop-i-test.true (ap (take (k - 0)) (w.deref.ensures.value ∙ sym here)) _ c.keeps.ensures _ w.clashes_with_one.ensures w.if-clashes_with_one.true
+          breaks_with ns gs (take k w.deref.result.now) k c.loop-i-test.true (ap (take k) (w.deref.ensures.value ∙ sym here)) _ c.keeps.ensures _ w.clashes_with_one.ensures w.if-clashes_with_one.true
     ] in
-    let e = ap Some c.fault_behind.ensures ∙ sym (verdict_grant (plan_of ns gs) k sound c.loop-i.invariant c.loop-i-test.true bad) ∙ ap (λ (l : List Grant). verdict (plan_of ns l)) here in
+    let e = ap Some c.at-then-not-keeps.ensures ∙ sym (verdict_grant (plan_of ns gs) k sound c.loop-i.invariant c.loop-i-test.true bad) ∙ ap (λ (l : List Grant). verdict (plan_of ns l)) here in
     record { answer = e; kept = tt; only = only_verdict (plan_of ns (vec_items c.args.grants)) _ e }
 
 pub loop-i-preserved : goal.loop-i-preserved
 loop-i-preserved c =
     let gs = c.deref-g-items.result.now in
     none_more (breaking (plan_of c.args.numbers gs)) c.loop-i.i c.loop-i.invariant
-    (breaks_none c.args.numbers gs (take (c.loop-i.i - 0) c.deref.result.now) c.loop-i.i c.loop-i-test.true (ap (take (c.loop-i.i - 0)) (c.deref.ensures.value ∙ sym c.deref-g-items.ensures.value)) _ c.keeps.ensures _ c.if-not-keeps.false c.clashes_with_one.ensures c.if-clashes_with_one.false)
+    (breaks_none c.args.numbers gs (take c.loop-i.i c.deref.result.now) c.loop-i.i c.loop-i-test.true (ap (take c.loop-i.i) (c.deref.ensures.value ∙ sym c.deref-g-items.ensures.value)) _ c.keeps.ensures _ c.if-not-keeps.false c.clashes_with_one.ensures c.if-clashes_with_one.false)
 
 -- no grant breaks a rule
 ended : (ns : Numbers) (gs vs : List Grant) (k : ℕ) → gs ≡ vs → Framed (plan_of ns gs) → ((i : ℕ) → 1 ≤ i → i ≤ k → breaking (plan_of ns gs) i ≡ false) → length gs ≤ k → verdict (plan_of ns vs) ≡ None
