@@ -1,11 +1,12 @@
 -- The test of a beacon's bitmap decides whether the bitmap fits.
-use Rattle.std.proofs.Common.{◌≡◌, ℕ, zero, suc, ◌+◌, ◌-◌, ◌*◌, ◌<◌, ◌≤◌, true, eqb, List, length, refl, inl, inr, arith}
+use Rattle.std.proofs.Common.{◌≡◌, ℕ, zero, suc, ◌+◌, ◌-◌, ◌*◌, ◌<◌, ◌≤◌, Bool, true, Decides, eqb, List, length, refl, inl, inr, arith}
 use Rattle.std.proofs.lemmas.Bool.{and_parts, and_from, eqb-true, eq-eqb, cases_eq, cases_lt}
 use Rattle.plan.specs.declared.grant.Numbers.{Numbers}
 use Rattle.plan.specs.Rules.{bitmap_octets}
 use Rattle.repeats.specs.Bitmaps.{bit, Fits}
 use Rattle.repeats.proofs.Marking.{bit_past}
 use Rattle.device.specs.Beacons.{clear, bitmap_fits}
+use Rattle.device.proofs.Deciding.{decides_alike}
 
 -- bits that are tested clear are zero
 cleared : (xs : List ℕ) (k count j : ℕ) → clear xs k count ≡ true → k ≤ j → j < k + count → bit xs j ≡ 0
@@ -37,3 +38,6 @@ fits_tells n xs = (
       },
   λ fits. and_from _ _ (eq-eqb (length xs) (bitmap_octets n) fits.size) (clearing xs _ _ (λ j low. fits.padding j (omega arith))),
 )
+
+pub fits_tested : (b : Bool) (n : Numbers) (xs : List ℕ) → Decides b (Fits n xs) → b ≡ bitmap_fits n xs
+fits_tested b n xs d = decides_alike b _ d (fits_tells n xs)

@@ -5,7 +5,7 @@ ghost use Rattle.device.specs.Fates.{Grounded};
 ghost use Rattle.device.specs.Steps.{told_by, informed, beacon_answer, beacon_state};
 ghost use Rattle.device.specs.Views.{heard};
 
-use crate::fates::{fate_by, news_of, repeat_by, to_repeat};
+use crate::fates::{news_of, to_repeat};
 use crate::hearing::{Beacon, beacon_in};
 use crate::state::{Device, Fate, Phase};
 use cargo::Cargo;
@@ -19,8 +19,8 @@ impl<C: Cargo + Drop> Device<C> {
         if self.sent.is_none() {
             return None;
         }
-        match self.configuration {
-            Some(configuration) => Some(fate_by(self.address, configuration, beacon)),
+        match self.member() {
+            Some(member) => Some(member.fate_by(beacon)),
             None => Some(Fate::Unknown),
         }
     }
@@ -30,10 +30,8 @@ impl<C: Cargo + Drop> Device<C> {
         ensures { self.new ≡ informed self.old (heard beacon.entry) }
     {
         let configured = self.configuration.is_some();
-        self.repeat = match (self.configuration, self.sent.take()) {
-            (Some(configuration), Some(cargo)) => {
-                to_repeat(repeat_by(self.address, configuration, beacon), cargo)
-            }
+        self.repeat = match (self.member(), self.sent.take()) {
+            (Some(member), Some(cargo)) => to_repeat(member.repeat_by(beacon), cargo),
             _ => None,
         };
         self.news = news_of(beacon);

@@ -1,19 +1,11 @@
 // Data: cargo that is offered, and what is learned of it where no beacon comes.
 ghost use Rattle.std.specs.Prelude.{◌≡◌};
 ghost use Rattle.device.specs.Fates.{Groundless};
-ghost use Rattle.device.specs.Steps.{missed_answer, missed_state, offer_answer, offer_state, room_in};
+ghost use Rattle.device.specs.Steps.{missed_answer, missed_state, offer_answer, offer_state};
 
-use crate::rules::grant_in;
 use crate::state::{Device, Fate, News};
 use cargo::Cargo;
-use frame::{Configuration, Fault, Refusal};
-
-// How many octets of cargo a configuration's grant carries.
-pub(crate) fn room_in(configuration: Configuration) -> usize
-    ensures { result ≡ room_in configuration }
-{
-    grant_in(0, configuration).carries(configuration.size)
-}
+use frame::{Fault, Refusal};
 
 impl<C: Cargo + Drop> Device<C> {
     // Tells the device that the beacon of this superframe was missed: of what was sent nothing is learned, and there is no repeat.
@@ -24,10 +16,7 @@ impl<C: Cargo + Drop> Device<C> {
     {
         self.news = News::Missed;
         self.repeat = None;
-        match self.sent.take() {
-            Some(_) => Some(Fate::Unknown),
-            None => None,
-        }
+        self.sent.take().map(|_| Fate::Unknown)
     }
 
     // Hands over cargo, which waits for the device's timeslot. Refused with Mode without a configuration, with Waiting where other
@@ -36,13 +25,11 @@ impl<C: Cargo + Drop> Device<C> {
         ensures answer { result ≡ offer_answer C.image self.old cargo }
         ensures state { self.new ≡ offer_state C.image self.old cargo }
     {
-        let Some(configuration) = self.configuration else {
-            return Err(Refusal::Mode.at(0));
-        };
+        let member = self.member().ok_or(Refusal::Mode.at(0))?;
         if self.waiting.is_some() {
             return Err(Refusal::Waiting.at(0));
         }
-        if cargo.length() > room_in(configuration) {
+        if cargo.length() > member.room() {
             return Err(Refusal::Size.at(0));
         }
         self.waiting = Some(cargo);

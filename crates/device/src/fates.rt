@@ -5,10 +5,9 @@ ghost use Rattle.device.specs.Steps.{to_repeat, news_of};
 ghost use Rattle.device.specs.Views.{heard};
 
 use crate::hearing::Beacon;
-use crate::rules::{grant_in, numbers_in};
+use crate::rules::{Member, acknowledgment_in};
 use crate::state::{Fate, News, Repeat};
-use frame::{BeaconState, Configuration};
-use repeats::GroupAcknowledgment;
+use frame::BeaconState;
 
 // What a beacon tells of its superframe.
 pub(crate) fn news_of(beacon: Beacon<'_>) -> News
@@ -17,24 +16,6 @@ pub(crate) fn news_of(beacon: Beacon<'_>) -> News
     match beacon.state {
         BeaconState::Online { .. } => News::Online,
         _ => News::Other,
-    }
-}
-
-// The first timeslot of the repeat that a beacon gives a device, or none.
-pub(crate) fn repeat_by(
-    address: u64,
-    configuration: Configuration,
-    beacon: Beacon<'_>,
-) -> Option<u8>
-    ensures { result ≡ repeat_by address configuration (heard beacon.entry) }
-{
-    match beacon.state {
-        BeaconState::Online { bitmap, .. } => GroupAcknowledgment {
-            numbers: numbers_in(configuration),
-            octets: bitmap.octets,
-        }
-        .repeat_start(grant_in(address, configuration)),
-        _ => None,
     }
 }
 
@@ -48,32 +29,41 @@ fn by_room(start: Option<u8>) -> Fate
     }
 }
 
-// The fate of cargo that was sent in the superframe before.
-pub(crate) fn fate_by(address: u64, configuration: Configuration, beacon: Beacon<'_>) -> Fate
-    ensures { result ≡ fate_by address configuration (heard beacon.entry) }
-{
-    match beacon.state {
-        BeaconState::Online { bitmap, .. } => {
-            let acknowledgment = GroupAcknowledgment {
-                numbers: numbers_in(configuration),
-                octets: bitmap.octets,
-            };
-            if acknowledgment.is_set(configuration.first) {
-                Fate::Confirmed
-            } else {
-                by_room(repeat_by(address, configuration, beacon))
-            }
-        }
-        _ => Fate::Unknown,
-    }
-}
-
 // Cargo to be repeated from a timeslot on, or let go.
 pub(crate) fn to_repeat<C: Drop>(start: Option<u8>, cargo: C) -> Option<Repeat<C>>
     ensures { result ≡ to_repeat start cargo }
 {
-    match start {
-        Some(start) => Some(Repeat { start, cargo }),
-        None => None,
+    start.map(|start| Repeat { start, cargo })
+}
+
+impl Member {
+    // The first timeslot of the repeat that a beacon gives, or none.
+    pub(crate) fn repeat_by(self, beacon: Beacon<'_>) -> Option<u8>
+        ensures { result ≡ repeat_by self.address self.configuration (heard beacon.entry) }
+    {
+        match beacon.state {
+            BeaconState::Online { bitmap, .. } => {
+                acknowledgment_in(self.configuration, bitmap.octets).repeat_start(self.grant())
+            }
+            _ => None,
+        }
+    }
+
+    // The fate of cargo that was sent in the superframe before.
+    pub(crate) fn fate_by(self, beacon: Beacon<'_>) -> Fate
+        ensures { result ≡ fate_by self.address self.configuration (heard beacon.entry) }
+    {
+        match beacon.state {
+            BeaconState::Online { bitmap, .. } => {
+                if acknowledgment_in(self.configuration, bitmap.octets).is_set(
+                    self.configuration.first,
+                ) {
+                    Fate::Confirmed
+                } else {
+                    by_room(self.repeat_by(beacon))
+                }
+            }
+            _ => Fate::Unknown,
+        }
     }
 }

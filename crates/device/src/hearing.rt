@@ -1,13 +1,11 @@
 // Which beacons a device takes.
 ghost use Rattle.std.specs.Prelude.{◌≡◌};
 ghost use Rattle.frame.specs.Views.{told};
-ghost use Rattle.device.specs.Beacons.{as_beacon, bitmap_fits, agrees, admitted, beacon_taken};
+ghost use Rattle.device.specs.Beacons.{as_beacon, agrees, admitted, beacon_taken};
 ghost use Rattle.device.specs.Views.{heard, heard_in};
 
-use crate::rules::numbers_in;
+use crate::rules::acknowledgment_in;
 use frame::{BeaconHeader, BeaconState, Configuration, Fault, Frame, Refusal};
-use plan::Numbers;
-use repeats::GroupAcknowledgment;
 
 // A beacon, which borrows from the received octets.
 #[derive(Clone, Copy)]
@@ -26,13 +24,6 @@ fn as_beacon(frame: Frame<'_>) -> Result<Beacon<'_>, Fault>
     }
 }
 
-// Whether octets are as many as a beacon's bitmap has, with every padding bit zero.
-fn bitmap_fits(octets: &[u8], numbers: Numbers) -> bool
-    ensures { result ≡ bitmap_fits numbers octets.now }
-{
-    GroupAcknowledgment { numbers, octets }.fits()
-}
-
 // Whether a beacon agrees with a configuration: only an Online one can differ.
 fn agrees(configuration: Configuration, beacon: Beacon<'_>) -> bool
     ensures { result ≡ agrees configuration (heard beacon.entry) }
@@ -41,7 +32,7 @@ fn agrees(configuration: Configuration, beacon: Beacon<'_>) -> bool
         BeaconState::Online { timeslots, bitmap } => {
             beacon.header.size == configuration.size
                 && timeslots == configuration.timeslots
-                && bitmap_fits(bitmap.octets, numbers_in(configuration))
+                && acknowledgment_in(configuration, bitmap.octets).fits()
         }
         _ => true,
     }

@@ -2,11 +2,10 @@
 ghost use Rattle.std.specs.Prelude.{◌≡◌};
 ghost use Rattle.frame.specs.Views.{told};
 ghost use Rattle.frame.specs.Writing.{fitting, left_by};
-ghost use Rattle.device.specs.Phases.{thanked};
-ghost use Rattle.device.specs.Steps.{status, management_in, write_answer, write_state, write_memory, is_missed, estranged, configuring, taken_by, taking, take_answer, take_state};
+ghost use Rattle.device.specs.Steps.{status, management_in, write_answer, write_state, write_memory, estranged, configuring, taken_by, taking, take_answer, take_state};
 ghost use Rattle.device.specs.Views.{taken_seen};
 
-use crate::rules::keeps_rules;
+use crate::rules::Member;
 use crate::state::{Device, News, Phase};
 use cargo::Cargo;
 use frame::{
@@ -14,63 +13,31 @@ use frame::{
     write_command,
 };
 
-// What a management frame of the coordinator brings.
-#[derive(Clone, Copy, Drop)]
-enum Brought {
-    // The device's answer to a discovery was heard.
-    Acknowledgment,
-    // The device is configured.
-    Configured(Configuration),
-}
-
-// The Configuration Status. Without a configuration the simple address is 255, and the grant is empty.
-fn status(address: u64, wish: Wish, configuration: Option<Configuration>) -> Command
-    ensures { result ≡ status address wish configuration }
-{
-    let (simple, first, width) = match configuration {
-        Some(told) => (told.simple, told.first, told.width),
-        None => (255, 0, 0),
-    };
-    Command::ConfigurationStatus {
-        address,
-        simple,
-        wish,
-        first,
-        width,
-    }
-}
-
-// The phase of a device that has written its management frame: one that had to acknowledge has done so.
-fn thanked(phase: Phase) -> Phase
-    ensures { result ≡ thanked phase }
-{
-    match phase {
-        Phase::Thanking => Phase::Set,
-        other => other,
-    }
-}
-
-// Whether the beacon was missed.
-fn is_missed(news: News) -> bool
-    ensures { result ≡ is_missed news }
-{
-    match news {
-        News::Missed => true,
-        _ => false,
-    }
-}
-
 // Whether a configuration comes from another coordinator than the one before.
 fn is_estranged(before: Option<Configuration>, configuration: Configuration) -> bool
     ensures { result ≡ estranged before configuration }
 {
-    match before {
-        Some(before) => configuration.coordinator != before.coordinator,
-        None => false,
-    }
+    before.is_some_and(|before| configuration.coordinator != before.coordinator)
 }
 
 impl<C: Cargo + Drop> Device<C> {
+    // The Configuration Status. Without a configuration the simple address is 255, and the grant is empty.
+    fn status(&self) -> Command
+        ensures { result ≡ status self.now.address self.now.wish self.now.configuration }
+    {
+        let (simple, first, width) = match self.configuration {
+            Some(told) => (told.simple, told.first, told.width),
+            None => (255, 0, 0),
+        };
+        Command::ConfigurationStatus {
+            address: self.address,
+            simple,
+            wish: self.wish,
+            first,
+            width,
+        }
+    }
+
     // Writes the frame that belongs to the device's phase.
     fn write_in_phase(&self, buffer: &mut [u8]) -> Result<usize, Fault>
         ensures answer { result ≡ fitting (management_in self.now self.now.phase) buffer.old }
@@ -84,9 +51,7 @@ impl<C: Cargo + Drop> Device<C> {
                 };
                 write_command(response, buffer)
             }
-            Phase::Asking => {
-                write_command(status(self.address, self.wish, self.configuration), buffer)
-            }
+            Phase::Asking => write_command(self.status(), buffer),
             Phase::Thanking => write_acknowledgment(Acknowledged::ConfigurationRequest, buffer),
             _ => Ok(0),
         }
@@ -99,29 +64,39 @@ impl<C: Cargo + Drop> Device<C> {
         ensures state { self.new ≡ write_state self.old buffer.old }
         ensures memory { buffer.new ≡ write_memory self.old buffer.old }
     {
-        if is_missed(self.news) {
+        if self.news == News::Missed {
             return Ok(0);
         }
         let written = self.write_in_phase(buffer)?;
-        self.phase = thanked(self.phase);
+        if self.phase == Phase::Thanking {
+            self.phase = Phase::Set;
+        }
         Ok(written)
     }
 
-    // What a request to a full address brings.
-    fn configured(&self, address: u64, configuration: Configuration) -> Result<Brought, Fault>
+    // The configuration that a request to a full address brings.
+    fn configured(
+        &self,
+        address: u64,
+        configuration: Configuration,
+    ) -> Result<Option<Configuration>, Fault>
         ensures { taken_seen result ≡ configuring self.now address configuration }
     {
         if address != self.address || is_estranged(self.configuration, configuration) {
             return Err(Refusal::Stranger.at(0));
         }
-        if !keeps_rules(self.address, configuration) {
+        let member = Member {
+            address,
+            configuration,
+        };
+        if !member.keeps_rules() {
             return Err(Refusal::Misfit.at(0));
         }
-        Ok(Brought::Configured(configuration))
+        Ok(Some(configuration))
     }
 
-    // What a frame brings a device that asks for its configuration, or else one that answers a discovery.
-    fn brought(&self, asking: bool, frame: Frame<'_>) -> Result<Brought, Fault>
+    // What a frame brings: to a device that asks for it, its configuration, and else none, with the acknowledgment of its answer to a discovery.
+    fn brought(&self, asking: bool, frame: Frame<'_>) -> Result<Option<Configuration>, Fault>
         ensures { taken_seen result ≡ taken_by self.now asking (told frame.entry).message }
     {
         match frame {
@@ -135,13 +110,13 @@ impl<C: Cargo + Drop> Device<C> {
             Frame::Acknowledgment {
                 acknowledged: Acknowledged::DiscoverResponse,
                 ..
-            } if !asking => Ok(Brought::Acknowledgment),
+            } if !asking => Ok(None),
             _ => Err(Refusal::Unwanted.at(0)),
         }
     }
 
     // What octets bring, by the device's phase.
-    fn taking(&self, octets: &[u8]) -> Result<Brought, Fault>
+    fn taking(&self, octets: &[u8]) -> Result<Option<Configuration>, Fault>
         ensures { taken_seen result ≡ taking self.now octets.now }
     {
         let asking = match self.phase {
@@ -159,8 +134,8 @@ impl<C: Cargo + Drop> Device<C> {
         ensures state { self.new ≡ take_state self.old octets.now }
     {
         match self.taking(octets)? {
-            Brought::Acknowledgment => self.phase = Phase::Known,
-            Brought::Configured(configuration) => {
+            None => self.phase = Phase::Known,
+            Some(configuration) => {
                 self.configuration = Some(configuration);
                 self.phase = Phase::Thanking;
             }

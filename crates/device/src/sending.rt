@@ -2,10 +2,10 @@
 ghost use Rattle.std.specs.Prelude.{◌≡◌};
 ghost use Rattle.frame.specs.Messages.{data_frame, octets_of};
 ghost use Rattle.frame.specs.Writing.{fitting, left_by};
-ghost use Rattle.device.specs.Steps.{is_on, again_turn, no_timeslot, send_answer, send_state, send_memory};
+ghost use Rattle.device.specs.Steps.{again_turn, no_timeslot, send_answer, send_state, send_memory};
 ghost use Rattle.device.specs.Turns.{waiting_turn, turn_answer, turn_state, turn_memory};
 
-use crate::data::room_in;
+use crate::rules::Member;
 use crate::state::{Device, News};
 use cargo::Cargo;
 use frame::{Configuration, Fault, Refusal, write_data};
@@ -14,20 +14,7 @@ use frame::{Configuration, Fault, Refusal, write_data};
 fn is_no_timeslot(configuration: Option<Configuration>, timeslot: u8) -> bool
     ensures { result ≡ no_timeslot configuration timeslot }
 {
-    match configuration {
-        Some(told) => timeslot == 0 || timeslot > told.timeslots,
-        None => timeslot == 0,
-    }
-}
-
-// Whether the beacon was taken, and was an Online one.
-fn is_online(news: News) -> bool
-    ensures { result ≡ is_on news }
-{
-    match news {
-        News::Online => true,
-        _ => false,
-    }
+    timeslot == 0 || configuration.is_some_and(|told| timeslot > told.timeslots)
 }
 
 // Writes a data frame with cargo.
@@ -37,24 +24,20 @@ fn write_cargo<C: Cargo>(cargo: &C, buffer: &mut [u8]) -> Result<usize, Fault>
 {
     let mut payload = [0; 124];
     let length = cargo.write(&mut payload)?;
-    write_data(&payload[0..length], buffer)
+    write_data(&payload[..length], buffer)
 }
 
 impl<C: Cargo + Drop> Device<C> {
     // Sends the cargo that waits, if none was sent yet and it takes no more octets than there is room for.
-    fn send_waiting(
-        &mut self,
-        configuration: Configuration,
-        buffer: &mut [u8],
-    ) -> Result<usize, Fault>
-        ensures answer { result ≡ turn_answer C.image (waiting_turn C.image configuration self.old) buffer.old }
-        ensures state { self.new ≡ turn_state self.old (waiting_turn C.image configuration self.old) result }
-        ensures memory { buffer.new ≡ turn_memory C.image (waiting_turn C.image configuration self.old) result buffer.old }
+    fn send_waiting(&mut self, member: Member, buffer: &mut [u8]) -> Result<usize, Fault>
+        ensures answer { result ≡ turn_answer C.image (waiting_turn C.image member.configuration self.old) buffer.old }
+        ensures state { self.new ≡ turn_state self.old (waiting_turn C.image member.configuration self.old) result }
+        ensures memory { buffer.new ≡ turn_memory C.image (waiting_turn C.image member.configuration self.old) result buffer.old }
     {
         let Some(cargo) = &self.waiting else {
             return Ok(0);
         };
-        if self.sent.is_some() || cargo.length() > room_in(configuration) {
+        if self.sent.is_some() || cargo.length() > member.room() {
             return Ok(0);
         }
         let written = write_cargo(cargo, buffer)?;
@@ -87,16 +70,16 @@ impl<C: Cargo + Drop> Device<C> {
         ensures memory { buffer.new ≡ send_memory C.image self.old timeslot buffer.old }
     {
         if is_no_timeslot(self.configuration, timeslot) {
-            return Err(Refusal::Timeslot.at(timeslot as usize));
+            return Err(Refusal::Timeslot.at(usize::from(timeslot)));
         }
-        let Some(configuration) = self.configuration else {
+        let Some(member) = self.member() else {
             return Ok(0);
         };
-        if !is_online(self.news) {
+        if self.news != News::Online {
             return Ok(0);
         }
-        if timeslot == configuration.first {
-            self.send_waiting(configuration, buffer)
+        if timeslot == member.configuration.first {
+            self.send_waiting(member, buffer)
         } else {
             self.send_repeat(timeslot, buffer)
         }

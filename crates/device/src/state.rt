@@ -34,7 +34,7 @@ pub enum Fate {
 }
 
 // What a device knows of the superframe that it is in.
-#[derive(Clone, Copy, Drop)]
+#[derive(Clone, Copy, PartialEq, Eq, Drop)]
 pub enum News {
     // Its beacon was missed, or none was taken yet.
     Missed,

@@ -1,9 +1,12 @@
 -- Who is served, in every plan and every bitmap in which each grant's bits are alike.
 use Rattle.std.proofs.Common.{◌≡◌, ℕ, ◌+◌, ◌<◌, ◌≤◌, true, false, not, eqb, ltb, List, Some, None, Option, sym, refl, ap, ◌∙◌, subst, inl, inr, ⊎_elim, arith}
-use Rattle.std.proofs.lemmas.Bool.{and_from, and_parts, both_ways, cases_lt, cases_order, cond-true, cond-false, lt-ltb, lt-leb, le-leb, eqb-true, eq-eqb}
+use Rattle.std.proofs.lemmas.Option.{same_Some}
+use Rattle.std.proofs.lemmas.Bool.{and_from, and_parts, both_ways, cases_eq, cases_lt, cases_order, cond-true, cond-false, lt-ltb, lt-leb, le-leb, eqb-true, eq-eqb, ne_eqb}
+use Rattle.std.specs.Bool.{then_some}
+use Rattle.std.specs.Option.{option_map}
 use Rattle.plan.specs.declared.grant.Grant.{Grant}
 use Rattle.plan.specs.Rules.{PlanMeaning, Rules, grant_at}
-use Rattle.plan.specs.Answers.{holder_of}
+use Rattle.plan.specs.Answers.{holder_of, with_grant}
 use Rattle.plan.specs.Laws.{Names}
 use Rattle.plan.proofs.Lawful.{at_most_one_holder, disjoint, grant_within, names_the_one, names_holder}
 use Rattle.repeats.specs.Bitmaps.{acknowledged, missed}
@@ -15,6 +18,17 @@ use Rattle.repeats.proofs.Starting.{started, unserved, too_late}
 -- the repeats lie in 1 to R
 pub within : (m : PlanMeaning) (xs : List ℕ) → RepeatsWithin m xs
 within m xs t i g at r = let s = started m.numbers xs g r.0 r.1 in (omega arith, omega arith)
+
+-- what a number with its grant tells
+grant_told : (k i : ℕ) (g : Grant) (o : Option Grant) → option_map {U = ℕ × Grant} (λ h. (k, h)) o ≡ Some (i, g) → (k ≡ i) × (o ≡ Some g)
+grant_told k i g None e = let z : ◌≡◌ {A = ℕ} 0 1 = cc in absurd (omega arith)
+grant_told k i g (Some h) e =
+    let q = same_Some {A = ℕ × Grant} (k, h) (i, g) e in
+    (ap (λ (p : ℕ × Grant). p.0) q, ap (λ (p : ℕ × Grant). Some p.1) q)
+
+told : (m : PlanMeaning) (i : ℕ) (g : Grant) (o : Option ℕ) → with_grant m o ≡ Some (i, g) → (o ≡ Some i) × (grant_at m i ≡ Some g)
+told m i g None e = let z : ◌≡◌ {A = ℕ} 0 1 = cc in absurd (omega arith)
+told m i g (Some k) e = let w = grant_told k i g (grant_at m k) e in (ap Some w.0, subst (λ (j : ℕ). grant_at m j ≡ Some g) w.0 w.1)
 
 module _ (m : PlanMeaning) (rules : Rules m) (t : ℕ) where
   -- one grant at most begins at a timeslot
@@ -33,34 +47,28 @@ module _ (m : PlanMeaning) (rules : Rules m) (t : ℕ) where
   nobody None names never = refl
   nobody (Some i) names never = let w = (names i).0 refl in absurd (never i w.0 w.1 w.2)
 
-  -- a grant that begins there is the answer
-  pub begins : (i : ℕ) (p : Option Grant) (g : Grant) → p ≡ grant_at m i → p ≡ Some g → g.first ≡ t → Some i ≡ beginner_at m t
-  begins i p g d f e = sym ((names_beginner i).1 (g, sym d ∙ f, e))
+  -- where no grant holds the timeslot, none begins there
+  pub unheld : with_grant m (holder_of m t) ≡ None → None ≡ beginner_at m t
+  unheld none = nobody (beginner_at m t) names_beginner (λ i g at e.
+      let v = grant_within m rules i g at in
+      let h = (names_holder m rules t i).1 (g, at, (omega arith, omega arith)) in
+      let z : ◌≡◌ {A = ℕ} 0 1 = cc in
+      omega arith)
 
-  -- the answer to the question for the holder, and a reason why that grant does not begin there
-  module _ (o : Option ℕ) (holder : o ≡ holder_of m t) where
-    begins_not : ((i : ℕ) (g : Grant) → o ≡ Some i → grant_at m i ≡ Some g → g.first ≡ t → ⊥) → None ≡ beginner_at m t
-    begins_not never = nobody (beginner_at m t) names_beginner (λ i g at e. never i g (holder ∙ (names_holder m rules t i).1 (g, at, held i g at e)) at e)
-      where
-        held : (i : ℕ) (g : Grant) → grant_at m i ≡ Some g → g.first ≡ t → (g.first ≤ t) × (t < g.first + g.width)
-        held i g at e = let v = grant_within m rules i g at in (omega arith, omega arith)
-
-    pub no_holder : o ≡ None → None ≡ beginner_at m t
-    no_holder none = begins_not (λ i g q at e. let z : ◌≡◌ {A = ℕ} 0 1 = cc in omega arith)
-
-    pub no_grant : (k : ℕ) (p : Option Grant) → o ≡ Some k → p ≡ grant_at m k → p ≡ None → None ≡ beginner_at m t
-    no_grant k p s d none = begins_not (λ i g q at e.
-        let number : i ≡ k = cc in
-        let there : grant_at m k ≡ Some g = subst (λ (j : ℕ). grant_at m j ≡ Some g) number at in
-        let z : ◌≡◌ {A = ℕ} 0 1 = cc in
-        omega arith)
-
-    pub other_first : (k : ℕ) (p : Option Grant) (h : Grant) → o ≡ Some k → p ≡ grant_at m k → p ≡ Some h → (h.first ≡ t → ⊥) → None ≡ beginner_at m t
-    other_first k p h s d f differs = begins_not (λ i g q at e.
-        let number : i ≡ k = cc in
-        let there : grant_at m k ≡ Some g = subst (λ (j : ℕ). grant_at m j ≡ Some g) number at in
-        let same : h ≡ g = cc in
-        differs (ap (λ (x : Grant). x.first) same ∙ e))
+  -- the grant that holds it begins there, or none does
+  pub held_begins : (i : ℕ) (g : Grant) → with_grant m (holder_of m t) ≡ Some (i, g) → then_some (eqb g.first t) i ≡ beginner_at m t
+  held_begins i g e =
+      let at = told m i g (holder_of m t) e in
+      elim (cases_eq g.first t) [
+        | inl q ↦ rw (eq-eqb g.first t q) (sym ((names_beginner i).1 (g, at.1, q)))
+        | inr n ↦ rw (ne_eqb g.first t n) (nobody (beginner_at m t) names_beginner (λ k h there q.
+            let v = grant_within m rules k h there in
+            let f = (names_holder m rules t k).1 (h, there, (omega arith, omega arith)) in
+            let number : k ≡ i = cc in
+            let also : grant_at m i ≡ Some h = subst (λ (l : ℕ). grant_at m l ≡ Some h) number there in
+            let same : h ≡ g = cc in
+            n (sym (ap (λ (x : Grant). x.first) same) ∙ q)))
+      ]
 
 starts_tells : (t : ℕ) (o : Option ℕ) → (starts_at t o ≡ true → o ≡ Some t) × (o ≡ Some t → starts_at t o ≡ true)
 starts_tells t None = (λ e. absurd (both_ways false refl e), λ e. let z : ◌≡◌ {A = ℕ} 0 1 = cc in absurd (omega arith))

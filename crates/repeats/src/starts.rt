@@ -1,11 +1,11 @@
 // Who repeats where.
 ghost use Rattle.std.specs.Prelude.{◌≡◌};
 ghost use Rattle.repeats.specs.Laws.{BitsAlike, NamesRepeater, NamesSender, RepeatsApart, RepeatsWithin, ServedInOrder};
-ghost use Rattle.repeats.specs.Starts.{zeros, may_repeat, wants_repeat, has_room, repeat_start, starts_at, for_retransmission, repeater_at, beginner_at, sender_at};
+ghost use Rattle.repeats.specs.Starts.{zeros, may_repeat, wants_repeat, has_room, repeat_start, repeater_at, beginner_at, sender_at};
 
 use super::bitmap::GroupAcknowledgment;
 use frame::Direction;
-use plan::{Grant, Numbers, SlotPlan};
+use plan::{Grant, Grants, Numbers, SlotPlan, grant_holding};
 
 // Whether a grant may repeat at all.
 fn may_repeat(numbers: Numbers, grant: Grant) -> bool
@@ -47,13 +47,6 @@ impl GroupAcknowledgment<'_> {
         let before = self.zeros_before(grant.first);
         has_room(self.numbers, before, grant.width).then_some(before + 1)
     }
-
-    // Whether the grant's repeat starts at timeslot t.
-    fn repeats_from(self, grant: Grant, t: u8) -> bool
-        ensures { result ≡ starts_at t (repeat_start self.entry.numbers self.entry.octets.now grant) }
-    {
-        self.repeat_start(grant) == Some(t)
-    }
 }
 
 // The number of the grant whose repeat starts at timeslot t, or none.
@@ -68,30 +61,17 @@ pub fn repeater<P: SlotPlan>(plan: &P, octets: &[u8], t: u8) -> Option<usize>
         numbers: plan.numbers(),
         octets,
     };
-    for before in 0..plan.count() {
-        if let Some(grant) = plan.grant(before + 1) {
-            if acknowledgment.repeats_from(grant, t) {
-                return Some(before + 1);
-            }
-        }
-    }
-    None
+    Grants::of(plan)
+        .find(|(_, grant)| acknowledgment.repeat_start(*grant) == Some(t))
+        .map(|(i, _)| i)
 }
 
 // The number of the grant that begins at timeslot t, or none.
 fn beginner<P: SlotPlan>(plan: &P, t: u8) -> Option<usize>
     ensures { result ≡ beginner_at (P.SlotPlan.meaning plan.now) t }
 {
-    let i = plan.holder(t)?;
-    let grant = plan.grant(i)?;
-    if grant.first == t { Some(i) } else { None }
-}
-
-// Whether timeslot t is one of those for retransmission.
-fn is_for_retransmission(numbers: Numbers, t: u8) -> bool
-    ensures { result ≡ for_retransmission numbers t }
-{
-    t <= numbers.retransmission
+    let (i, grant) = grant_holding(plan, t)?;
+    (grant.first == t).then_some(i)
 }
 
 // The number of the grant whose frame starts at timeslot t, or none: the frame is a repeat in the timeslots up to R.
@@ -99,7 +79,7 @@ pub fn sender<P: SlotPlan>(plan: &P, octets: &[u8], t: u8) -> Option<usize>
     ensures answer { result ≡ sender_at (P.SlotPlan.meaning plan.now) octets.now t }
     ensures names { BitsAlike (P.SlotPlan.meaning plan.now) octets.now → NamesSender (P.SlotPlan.meaning plan.now) octets.now t result }
 {
-    if is_for_retransmission(plan.numbers(), t) {
+    if t <= plan.numbers().retransmission {
         repeater(plan, octets, t)
     } else {
         beginner(plan, t)

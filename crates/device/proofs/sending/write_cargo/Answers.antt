@@ -1,4 +1,4 @@
-use Rattle.std.proofs.Common.{◌≡◌, ◌-◌, take}
+use Rattle.std.proofs.Common.{◌≡◌, take}
 use Rattle.device.proofs.Payloads.{start_written, answered, remembered}
 use Rattle.device.proofs.sending.write_cargo.Goals as goal
 
@@ -7,7 +7,7 @@ returns g c =
     let x = c.args.cargo.now in
     let xs = g.C.Cargo.image x in
     let few = g.met.C.Cargo.short x in
-    let same : take (c.in_ok-length.length - 0) c.write.new.buffer ≡ xs =
+    let same : take c.in_ok-length.length c.write.new.buffer ≡ xs =
     start_written xs _ _ c.write.result c.in_ok-length.length c.write.ensures.answer c.write.ensures.memory c.in_ok-length.was in
     record {
       answer = answered xs _ c.args.buffer.now _ _ few same c.write_data.ensures;

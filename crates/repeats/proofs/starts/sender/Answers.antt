@@ -1,5 +1,5 @@
-use Rattle.std.proofs.Common.{◌≡◌, ℕ, Bool, true, false, List, Option, sym, ap, ◌∙◌, subst}
-use Rattle.std.proofs.lemmas.Bool.{cond-true, cond-false}
+use Rattle.std.proofs.Common.{◌≡◌, ℕ, ◌<◌, ◌≤◌, Bool, true, false, List, Option, sym, ap, ◌∙◌, subst, arith}
+use Rattle.std.proofs.lemmas.Bool.{cond-true, cond-false, le-leb, lt-leb}
 use Rattle.plan.specs.declared.grant.Numbers.{Numbers}
 use Rattle.plan.specs.Rules.{PlanMeaning, Rules}
 use Rattle.repeats.specs.Laws.{BitsAlike, NamesSender}
@@ -7,31 +7,29 @@ use Rattle.repeats.specs.Starts.{for_retransmission, repeater_at, beginner_at, s
 use Rattle.repeats.proofs.Serving.{names_sender}
 use Rattle.repeats.proofs.starts.sender.Goals as goal
 
-module _ (m : PlanMeaning) (n : Numbers) (xs : List ℕ) (t : ℕ) (same : n ≡ m.numbers) (early : Bool) (tested : early ≡ for_retransmission n t) where
-  told : early ≡ for_retransmission m.numbers t
-  told = tested ∙ ap (λ (l : Numbers). for_retransmission l t) same
-
-  repeated : (r : Option ℕ) → early ≡ true → r ≡ repeater_at m xs t → r ≡ sender_at m xs t
-  unfolding sender_at
-  repeated r h e = e ∙ sym (cond-true _ _ _ (sym told ∙ h))
-
-  begun : (r : Option ℕ) → early ≡ false → r ≡ beginner_at m t → r ≡ sender_at m xs t
-  unfolding sender_at
-  begun r h e = e ∙ sym (cond-false _ _ _ (sym told ∙ h))
-
 named : (m : PlanMeaning) (xs : List ℕ) (t : ℕ) (r : Option ℕ) → Rules m → r ≡ sender_at m xs t → BitsAlike m xs → NamesSender m xs t r
 named m xs t r rules e alike = subst (NamesSender m xs t) (sym e) (names_sender m xs rules alike t)
 
-pub returns-then-is_for_retransmission : goal.returns-then-is_for_retransmission
-returns-then-is_for_retransmission g c =
+repeated : (m : PlanMeaning) (xs : List ℕ) (t : ℕ) → t ≤ m.numbers.retransmission → repeater_at m xs t ≡ sender_at m xs t
+unfolding sender_at
+repeated m xs t h = sym (cond-true _ _ _ (le-leb _ _ h))
+
+begun : (m : PlanMeaning) (xs : List ℕ) (t : ℕ) → m.numbers.retransmission < t → beginner_at m t ≡ sender_at m xs t
+unfolding sender_at
+begun m xs t h = sym (cond-false _ _ _ (lt-leb _ _ h))
+
+pub returns-then-t-numbers : goal.returns-then-t-numbers
+returns-then-t-numbers g c =
     let m = g.P.SlotPlan.meaning c.args.plan.now in
     let rules = g.met.P.SlotPlan.keeps c.args.plan.now in
-    let e = repeated m c.numbers.result c.args.octets.now c.args.t c.numbers.ensures c.is_for_retransmission.result c.is_for_retransmission.ensures c.repeater.result c.if-is_for_retransmission.true c.repeater.ensures.answer in
+    let limit = ap (λ (n : Numbers). n.retransmission) c.numbers.ensures in
+    let e = c.repeater.ensures.answer ∙ repeated m c.args.octets.now c.args.t (omega arith) in
     record { answer = e; names = named m c.args.octets.now c.args.t c.repeater.result rules e }
 
-pub returns-else-is_for_retransmission : goal.returns-else-is_for_retransmission
-returns-else-is_for_retransmission g c =
+pub returns-else-t-numbers : goal.returns-else-t-numbers
+returns-else-t-numbers g c =
     let m = g.P.SlotPlan.meaning c.args.plan.now in
     let rules = g.met.P.SlotPlan.keeps c.args.plan.now in
-    let e = begun m c.numbers.result c.args.octets.now c.args.t c.numbers.ensures c.is_for_retransmission.result c.is_for_retransmission.ensures c.beginner.result c.if-is_for_retransmission.false c.beginner.ensures in
+    let limit = ap (λ (n : Numbers). n.retransmission) c.numbers.ensures in
+    let e = c.beginner.ensures ∙ begun m c.args.octets.now c.args.t (omega arith) in
     record { answer = e; names = named m c.args.octets.now c.args.t c.beginner.result rules e }
