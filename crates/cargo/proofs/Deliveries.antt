@@ -1,22 +1,16 @@
 -- What is read of an image is the value whose image it is, also through a data frame.
-use Rattle.std.proofs.Common.{◌≡◌, ℕ, ◌-◌, ◌≤◌, List, ◌∷◌, length, take, Ok, Err, Result, sym, refl, ap, ◌∙◌, subst, arith}
-use Rattle.std.proofs.lemmas.List.{take_at}
+use Rattle.std.proofs.Common.{◌≡◌, ℕ, ◌≤◌, List, ◌∷◌, length, Ok, Err, Result, sym, refl, ap, ◌∙◌, subst, arith}
 use Rattle.frame.specs.declared.faults.Fault.{Fault}
 use Rattle.frame.specs.Formats.{Told}
 use Rattle.frame.specs.Messages.{data_frame}
 use Rattle.frame.proofs.Returns.{reads_back}
-use Rattle.cargo.specs.Images.{Reads, Apart, ReadsStart}
+use Rattle.cargo.specs.Images.{Reads, Apart}
 use Rattle.cargo.specs.Passing.{Taken, Receives, Delivered}
 
 module _ {C : Type 0} (image : C → List ℕ) (apart : Apart image) where
   pub read_is : (xs : List ℕ) (r : Result C Fault) → Reads image xs r → (v : C) → image v ≡ xs → r ≡ Ok v
   read_is xs (Ok w) h v e = ap Ok (apart w v (h ∙ sym e))
   read_is xs (Err f) h v e = absurd (h.1 v e)
-
-  pub start_is : (count : ℕ) (xs : List ℕ) (r : Result C Fault) → Reads image (take (count - 0) xs) r → ReadsStart image count xs r
-  start_is count xs r h v rest e f =
-      let n : length (image v) ≡ count - 0 = omega arith in
-      read_is (take (count - 0) xs) r h v (sym (ap (take (count - 0)) e ∙ take_at (image v) rest (count - 0) n))
 
   pub delivered : ((v : C) → length (image v) ≤ 124) → (xs : List ℕ) (r : Result C Fault) → Receives image xs r → Delivered image xs r
   delivered short xs r h v e =

@@ -1,5 +1,5 @@
 -- Which octets are a panel's image.
-use Rattle.std.specs.Prelude.{◌≡◌, ℕ, ◌^◌, ◌<◌, ◌≤◌, List, ◌∷◌, length, drop, ◌≢◌}
+use Rattle.std.specs.Prelude.{◌≡◌, ℕ, ◌+◌, ◌^◌, ◌<◌, ◌≤◌, List, ◌∷◌, length, take, drop, ◌≢◌}
 use Rattle.std.proofs.Common.{sym, ap, subst, ◌∙◌, arith}
 use mathlib.Core.HLevel.{is_prop→PathP}
 use Rattle.std.proofs.Math.Bridge.{le_prop}
@@ -9,17 +9,25 @@ use Rattle.frame.proofs.Numbers.{value_little}
 use Rattle.cargo.specs.declared.panel.Panel.{Panel}
 use Rattle.cargo.specs.Inputs.{inputs_in, octets_for, panel_image}
 use Rattle.cargo.specs.Panels.{inputs_of, image_of, ImagesNone}
-use Rattle.cargo.specs.Packing.{image_length, image_little, length-little, fits_octets}
+use Rattle.cargo.specs.Packing.{image_length, image_little, length-little, take-little, fits_octets}
 
 image_is : (p : Panel) → image_of p ≡ p.count ∷ little (octets_for p.count) p.inputs
 image_is p = image_little p.count p.inputs p.unused
 
+pub image_size : (p : Panel) → length (image_of p) ≡ 1 + octets_for p.count
+image_size p = image_length (inputs_of p) ∙ ap (λ (n : ℕ). 1 + octets_for n) p.counted
+
 pub image_short : (p : Panel) → length (image_of p) ≤ 124
 image_short p =
-    let size = image_length (inputs_of p) in
-    let counted : length (inputs_of p) ≡ p.count = p.counted in
+    let size = image_size p in
     let few = p.few in
     omega arith
+
+-- an image is the count and the first of the number's eight octets
+pub image_parts : (p : Panel) → p.count ∷ take (octets_for p.count) (little 8 p.inputs) ≡ image_of p
+image_parts p =
+    let few = p.few in
+    ap (λ (l : List ℕ). p.count ∷ l) (take-little (octets_for p.count) 8 p.inputs (omega arith)) ∙ sym (image_is p)
 
 -- the count and the number of a panel whose image is known
 count_from : (p : Panel) (count : ℕ) (xs : List ℕ) → image_of p ≡ count ∷ xs → p.count ≡ count

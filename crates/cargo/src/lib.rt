@@ -5,7 +5,6 @@ mod kinds;
 mod panel;
 mod passing;
 mod reading;
-mod writing;
 
 pub use kinds::Cargo;
 pub use panel::Panel;

@@ -3,6 +3,7 @@ ghost use Rattle.std.specs.Prelude.{◌≡◌, ◌^◌, ◌<◌, ◌≤◌, leng
 ghost use Rattle.cargo.specs.Inputs.{inputs_in};
 
 // From 1 to 64 inputs that are on or off: input k is bit k of `inputs`, and no other bit is set.
+// A count and a number, and no list: the library uses no heap, and a panel is copied.
 #[derive(Clone, Copy)]
 pub struct Panel {
     count: u8,

@@ -32,7 +32,7 @@ fn read_start<C: Cargo>(buffer: &[u8], count: usize) -> Result<C, Fault>
     requires { count ≤ length buffer.now }
     ensures { ReadsStart C.image count buffer.now result }
 {
-    C::read(&buffer[0..count])
+    C::read(&buffer[..count])
 }
 
 // Writes cargo into the buffer and reads it back: the same value, if the buffer has room for the image.

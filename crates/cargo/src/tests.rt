@@ -6,9 +6,7 @@ use std::test::Fail;
 
 // A buffer into which cargo was written.
 fn written<C: Cargo + Drop>(rt: &impl Abort, cargo: Option<C>) -> Result<[u8; 10], Fail> {
-    let Some(cargo) = cargo else {
-        return Err(Fail::new("no cargo"));
-    };
+    let cargo = cargo.ok_or_else(|| Fail::new("no cargo"))?;
     let mut buffer = [0xee; 10];
     let length = cargo.write(&mut buffer)?;
     assert!(rt; length == cargo.length());
@@ -59,11 +57,8 @@ fn texts(rt: HostRuntime) -> Result<(), Fail> {
 
 // A panel of that many inputs, of which the last one is on.
 fn last_on(count: usize) -> Option<Panel> {
-    let inputs = [false; 64];
-    if count == 0 || count > 64 {
-        return None;
-    }
-    Panel::new(&inputs[0..count])?.switched((count - 1) as u8, true)
+    let panel = Panel::new([false; 64].get(..count)?)?;
+    panel.switched(panel.count() - 1, true)
 }
 
 #[test]

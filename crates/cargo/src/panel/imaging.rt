@@ -1,6 +1,6 @@
 // Panels and their images.
 ghost use Rattle.std.specs.Prelude.{◌≡◌, ℕ, ◌+◌, ◌^◌, ◌<◌, ◌≤◌, ◌∷◌, length, take, MatchOption, nat_lt};
-ghost use Rattle.frame.specs.Octets.{little};
+ghost use Rattle.frame.specs.Octets.{value};
 ghost use Rattle.frame.specs.Writing.{fitting, left_by};
 ghost use Rattle.cargo.specs.Inputs.{octets_for, LaidOut};
 ghost use Rattle.cargo.specs.Panels.{inputs_of, image_of, ImagesNone};
@@ -8,27 +8,23 @@ ghost use Rattle.cargo.specs.PanelsLemmas.{image_short, same_panel};
 
 use super::Panel;
 use crate::kinds::Cargo;
-use crate::writing::put;
-use frame::{Fault, Refusal};
+use frame::{Fault, Refusal, put};
 
 // How many octets that many inputs fill.
 fn octets_for(count: u8) -> usize
     ensures { result ≡ octets_for count }
 {
-    (usize::from(count) + 7) / 8
+    usize::from(count).div_ceil(8)
 }
 
 // The number that at most eight octets write, lowest first.
 fn number_in(octets: &[u8]) -> u64
     requires { length octets.now ≤ 8 }
-    ensures octets { little (length octets.now) result ≡ octets.now }
-    ensures below { result < 256 ^ length octets.now }
+    ensures { result ≡ value octets.now }
 {
-    let mut number = 0;
-    for j in (0..octets.len()).rev() {
-        number = 256 * number + u64::from(octets[j]);
-    }
-    number
+    let mut eight = [0; 8];
+    eight[..octets.len()].copy_from_slice(octets);
+    u64::from_le_bytes(eight)
 }
 
 // Whether a number has no bit set from bit `count` on.
@@ -39,11 +35,13 @@ fn has_bits(number: u64, count: u8) -> bool
     count == 64 || number >> count == 0
 }
 
-// The panel whose image is the count and these octets, if there is one.
-fn panel_in(count: u8, octets: &[u8]) -> Option<Panel>
-    requires { (1 ≤ count) × (count ≤ 64) }
-    ensures { MatchOption result (ImagesNone (count ∷ octets.now)) (λ p. image_of p ≡ count ∷ octets.now) }
+// The panel whose image the octets are, if there is one.
+fn panel_in(image: &[u8]) -> Option<Panel>
+    ensures { MatchOption result (ImagesNone image.now) (λ p. image_of p ≡ image.now) }
 {
+    let &[count @ 1..=64, ref octets @ ..] = image else {
+        return None;
+    };
     if octets.len() != octets_for(count) {
         return None;
     }
@@ -54,25 +52,6 @@ fn panel_in(count: u8, octets: &[u8]) -> Option<Panel>
     Some(Panel { count, inputs })
 }
 
-impl Panel {
-    // How many octets the inputs fill.
-    fn filled(self) -> usize
-        ensures size { 1 + result ≡ length (image_of self) }
-        ensures most { result ≤ 8 }
-    {
-        octets_for(self.count)
-    }
-
-    // The octets of the image, and zeros behind them.
-    fn octets(self) -> [u8; 9]
-        ensures start { (n : ℕ) → n ≡ length (image_of self) → take n result ≡ image_of self }
-        ensures laid_out { LaidOut (inputs_of self) (image_of self) }
-    {
-        let [a, b, c, d, e, f, g, h] = self.inputs.to_le_bytes();
-        [self.count, a, b, c, d, e, f, g, h]
-    }
-}
-
 impl Cargo for Panel {
     ghost image = { image_of };
 
@@ -81,7 +60,7 @@ impl Cargo for Panel {
     ghost apart = { same_panel };
 
     fn length(&self) -> usize {
-        1 + self.filled()
+        1 + octets_for(self.count)
     }
 
     // `laid_out` says where each input stands in the image.
@@ -90,19 +69,11 @@ impl Cargo for Panel {
         ensures memory { buffer.new ≡ left_by result (image_of self.now) buffer.old }
         ensures laid_out { LaidOut (inputs_of self.now) (image_of self.now) }
     {
-        put(&self.octets()[0..self.length()], buffer)
+        let inputs = self.inputs.to_le_bytes();
+        put(&[&[self.count], &inputs[..octets_for(self.count)]], buffer)
     }
 
     fn read(octets: &[u8]) -> Result<Panel, Fault> {
-        let Some((count, inputs)) = octets.split_first() else {
-            return Err(Refusal::Cargo.at(1));
-        };
-        if *count == 0 || *count > 64 {
-            return Err(Refusal::Cargo.at(1));
-        }
-        match panel_in(*count, inputs) {
-            Some(panel) => Ok(panel),
-            None => Err(Refusal::Cargo.at(1)),
-        }
+        panel_in(octets).ok_or(Refusal::Cargo.at(1))
     }
 }

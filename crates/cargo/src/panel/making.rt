@@ -12,13 +12,10 @@ fn number_of(inputs: &[bool]) -> u64
     ensures below { result < 2 ^ length inputs.now }
     ensures inputs { inputs_in (length inputs.now) result ≡ inputs.now }
 {
-    let mut number = 0;
-    for (k, on) in inputs.iter().enumerate() {
-        if *on {
-            number |= 1u64 << k;
-        }
-    }
-    number
+    inputs
+        .iter()
+        .rev()
+        .fold(0, |number, on| number << 1 | u64::from(*on))
 }
 
 impl Panel {
@@ -26,7 +23,8 @@ impl Panel {
     pub fn new(inputs: &[bool]) -> Option<Panel>
         ensures { option_map inputs_of result ≡ (if leb 1 (length inputs.now) && nat_le (length inputs.now) 64 then Some inputs.now else None) }
     {
-        if inputs.is_empty() || inputs.len() > 64 {
+        // Not `then`: a closure that makes a panel needs a contract of its own.
+        if !(1..=64).contains(&inputs.len()) {
             return None;
         }
         Some(Panel {
@@ -46,20 +44,14 @@ impl Panel {
     pub fn input(self, k: u8) -> Option<bool>
         ensures { result ≡ (if nat_lt k (length (inputs_of self)) then Some (slice_index_or (inputs_of self) k false) else None) }
     {
-        if k >= self.count {
-            return None;
-        }
-        Some(self.is_on(k))
+        (k < self.count).then(|| self.is_on(k))
     }
 
     // The panel with one input changed, or none where there is no such input.
     pub fn switched(self, k: u8, on: bool) -> Option<Panel>
         ensures { option_map inputs_of result ≡ (if nat_lt k (length (inputs_of self)) then Some (slice_set (inputs_of self) k on) else None) }
     {
-        if k >= self.count {
-            return None;
-        }
-        Some(self.with_input(k, on))
+        (k < self.count).then(|| self.with_input(k, on))
     }
 
     // Whether an input is on.

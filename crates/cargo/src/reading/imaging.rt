@@ -5,8 +5,7 @@ ghost use Rattle.cargo.specs.Complements.{reading_short, same_reading};
 
 use super::Reading;
 use crate::kinds::Cargo;
-use crate::writing::put;
-use frame::{Fault, Refusal};
+use frame::{Fault, Refusal, put};
 
 // How many octets the image of a reading has.
 const SIZE: usize = 5;
@@ -15,10 +14,10 @@ const SIZE: usize = 5;
 fn parts(octets: &[u8]) -> Option<(i32, u8)>
     ensures { MatchOption result (length octets.now ≢ 5) (λ p. reading_image p.0 p.1 ≡ octets.now) }
 {
-    let [a, b, c, d, quality] = octets else {
+    let &[a, b, c, d, quality] = octets else {
         return None;
     };
-    Some((i32::from_le_bytes([*a, *b, *c, *d]), *quality))
+    Some((i32::from_le_bytes([a, b, c, d]), quality))
 }
 
 impl Cargo for Reading {
@@ -33,17 +32,12 @@ impl Cargo for Reading {
     }
 
     fn write(&self, buffer: &mut [u8]) -> Result<usize, Fault> {
-        let [a, b, c, d] = self.value.to_le_bytes();
-        put(&[a, b, c, d, self.quality], buffer)
+        put(&[&self.value.to_le_bytes(), &[self.quality]], buffer)
     }
 
     fn read(octets: &[u8]) -> Result<Reading, Fault> {
-        let Some((value, quality)) = parts(octets) else {
-            return Err(Refusal::Cargo.at(1));
-        };
-        match Reading::new(value, quality) {
-            Some(reading) => Ok(reading),
-            None => Err(Refusal::Cargo.at(1)),
-        }
+        parts(octets)
+            .and_then(|(value, quality)| Reading::new(value, quality))
+            .ok_or(Refusal::Cargo.at(1))
     }
 }

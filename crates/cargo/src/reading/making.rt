@@ -10,6 +10,7 @@ impl Reading {
     pub fn new(value: i32, quality: u8) -> Option<Reading>
         ensures { option_map told result ≡ (if nat_le quality 3 then Some (value, quality) else None) }
     {
+        // Not `then`: a closure that makes a reading needs a contract of its own.
         if quality > 3 {
             return None;
         }

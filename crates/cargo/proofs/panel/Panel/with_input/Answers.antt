@@ -2,11 +2,8 @@ use Rattle.std.proofs.Common.{◌≡◌, ◌*◌, ◌%◌, ◌^◌, ◌<◌, set
 use lib.Bits.{bit_xor}
 use Rattle.std.proofs.lemmas.Nat.{one_shl, xor_lt, pow_below}
 use Rattle.cargo.specs.Inputs.{inputs_in}
-use Rattle.cargo.specs.InputsLemmas.{length_inputs_in, same_input, other_input}
+use Rattle.cargo.specs.InputsLemmas.{length_inputs_in, other_input}
 use Rattle.cargo.proofs.panel.Panel.with_input.Goals as goal
-
-pub returns-then-is_on-on : goal.returns-then-is_on-on
-returns-then-is_on-on c = same_input _ c.args.k c.is_on.result c.args.on c.is_on.ensures c.if-is_on-on.true
 
 pub invariant_of-result : goal.invariant_of-result
 invariant_of-result c =

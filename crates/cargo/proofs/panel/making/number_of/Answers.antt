@@ -1,24 +1,38 @@
-use Rattle.std.proofs.Common.{◌≡◌, ◌*◌, ◌%◌, ◌^◌, ap, ◌∙◌, arith}
+use Rattle.std.proofs.Common.{◌≡◌, ℕ, ◌+◌, ◌*◌, ◌%◌, ◌^◌, ◌<◌, ◌≤◌, Bool, List, [], ◌∷◌, length, reverse, refl, ap, ◌∙◌, mod-eq_of_lt, rules, arith}
 use lib.Bits.{bit_or}
-use Rattle.std.proofs.lemmas.Nat.{one_shl}
-use Rattle.std.proofs.lemmas.List.{take_all}
-use Rattle.cargo.specs.Inputs.{number}
-use Rattle.cargo.specs.InputsLemmas.{step_on, step_off, number_below, inputs_in_number}
+use Rattle.std.proofs.Math.Nat.{pow-le-pow_right}
+use Rattle.std.specs.List.{fold}
+use Rattle.std.proofs.lemmas.List.{reverse-append}
+use Rattle.std.proofs.lemmas.List.Sums.{fold-append}
+use Rattle.std.proofs.lemmas.Nat.{or_shifted}
+use Rattle.cargo.specs.Inputs.{bit, number}
+use Rattle.cargo.specs.InputsLemmas.{bit_small, number_below, inputs_in_number}
 use Rattle.cargo.proofs.panel.making.number_of.Goals as goal
-use Rattle.cargo.proofs.panel.making.number_of.Goals.{then-on, else-on}
 
-pub loop-k-preserved : goal.loop-k-preserved
-loop-k-preserved c =
-    let xs = c.args.inputs.now in
-    let k = c.loop-k.k in
-    let p : (1 * 2 ^ k) % 2 ^ 64 ≡ 2 ^ k = one_shl k 64 (omega arith) in
-    elim c.if-on.branch [
-      | then-on w ↦ w.number-is ∙ ap (bit_or c.loop-k.number) p ∙ step_on xs k c.loop-k.number c.loop-k-test.true w.if-on.true c.loop-k.invariant
-      | else-on w ↦ w.number-is ∙ step_off xs k c.loop-k.number c.loop-k-test.true w.if-on.false c.loop-k.invariant
-    ]
+-- one input below those of a number
+abbrev with_input : ℕ → Bool → ℕ
+with_input n on = bit_or (n * 2 % 2 ^ 64) (bit on)
+
+with_input_is : (n : ℕ) (on : Bool) → n < 2 ^ 63 → with_input n on ≡ bit on + 2 * n
+with_input_is n on h =
+    let small = bit_small on in
+    let fits : n * 2 % 2 ^ 64 ≡ n * 2 = mod-eq_of_lt (omega arith) in
+    rw fits (or_shifted n 1 (bit on) (omega arith) ∙ omega arith)
+
+folded : (inputs : List Bool) → length inputs ≤ 64 → fold with_input 0 (reverse inputs) ≡ number inputs
+folded [] h = refl
+folded (on ∷ inputs) h =
+    let below = number_below inputs in
+    let few : length inputs ≤ 63 = omega arith in
+    let room : 2 ^ length inputs ≤ 2 ^ 63 = pow-le-pow_right (omega arith) few in
+    ap (fold with_input 0) (reverse-append (on ∷ []) inputs)
+    ∙ fold-append with_input 0 (reverse inputs) (on ∷ [])
+    ∙ ap (λ (n : ℕ). with_input n on) (folded inputs (omega arith))
+    ∙ with_input_is (number inputs) on (omega arith)
 
 pub returns : goal.returns
 returns c =
     let xs = c.args.inputs.now in
-    let e : c.loop-k.number ≡ number xs = c.loop-k.invariant ∙ ap number (take_all c.loop-k.k xs c.loop-k-test.false) in
-    record { below = rw e (number_below xs); inputs = rw e (inputs_in_number xs) }
+    let e : c.fold.result ≡ fold with_input 0 (reverse xs) = search rules in
+    let n : c.fold.result ≡ number xs = e ∙ folded xs c.requires in
+    record { below = rw n (number_below xs); inputs = rw n (inputs_in_number xs) }
