@@ -1,16 +1,15 @@
 // Writing the beacon that opens a superframe.
-ghost use Rattle.std.specs.Prelude.{◌≡◌, ◌≤◌};
-ghost use Rattle.frame.specs.Widths.{width_of};
+ghost use Rattle.std.specs.Prelude.{◌≡◌};
 ghost use Rattle.frame.specs.Writing.{fitting, left_by};
-ghost use Rattle.plan.specs.Rules.{NumbersKeep};
 ghost use Rattle.coordinator.specs.Beacons.{header_of};
 ghost use Rattle.coordinator.specs.Steps.{beacon_of, open_answer, open_state, open_memory};
 
-use super::state::{Inner, Mode, OpenSuperframe, Opened};
-use frame::{BeaconHeader, Fault, ManagementWidth, Refusal};
-use plan::Numbers;
+use super::coordinator::Coordinator;
+use super::state::{Mode, OpenSuperframe, Opened};
+use frame::{BeaconHeader, Fault, ManagementState, ManagementWidth, Refusal};
+use plan::{Numbers, SlotPlan};
 
-// What every beacon of a plan carries.
+// What every beacon of a plan carries. A From cannot stand here: both types are of other crates.
 fn header(numbers: Numbers) -> BeaconHeader
     ensures { result ≡ header_of numbers }
 {
@@ -21,57 +20,43 @@ fn header(numbers: Numbers) -> BeaconHeader
     }
 }
 
-// The width of a management timeslot.
-fn management(numbers: Numbers) -> ManagementWidth
-    requires { numbers.management ≤ 7 }
-    ensures { width_of result ≡ numbers.management }
-{
-    match ManagementWidth::new(numbers.management) {
-        Some(width) => width,
-        None => unreachable(),
-    }
-}
-
-impl Inner {
+impl<P: SlotPlan> Coordinator<P> {
     // Writes the beacon of the next superframe.
-    fn write_beacon(&self, numbers: Numbers, buffer: &mut [u8]) -> Result<usize, Fault>
-        requires { NumbersKeep numbers }
-        ensures answer { result ≡ fitting (beacon_of numbers self.now) buffer.old }
-        ensures memory { buffer.new ≡ left_by result (beacon_of numbers self.now) buffer.old }
+    fn write_beacon(&self, buffer: &mut [u8]) -> Result<usize, Fault>
+        ensures answer { result ≡ fitting (beacon_of (P.SlotPlan.meaning self.now.plan).numbers self.now.inner) buffer.old }
+        ensures memory { buffer.new ≡ left_by result (beacon_of (P.SlotPlan.meaning self.now.plan).numbers self.now.inner) buffer.old }
     {
+        let numbers = self.plan.numbers();
         let header = header(numbers);
-        match self.mode {
-            Mode::Discovery => {
-                frame::write_discovery_beacon(header, management(numbers), buffer)
-            }
-            Mode::Configuration => {
-                frame::write_configuration_beacon(header, management(numbers), buffer)
-            }
+        let state = match self.inner.mode {
+            Mode::Discovery => ManagementState::Discovery,
+            Mode::Configuration => ManagementState::Configuration,
             Mode::Online => {
-                let bitmap = &self.sent[..numbers.bitmap_octets()];
-                frame::write_online_beacon(header, numbers.timeslots, bitmap, buffer)
+                let bitmap = &self.inner.sent[..numbers.bitmap_octets()];
+                return frame::write_online_beacon(header, numbers.timeslots, bitmap, buffer);
             }
-            Mode::Reset => frame::write_reset_beacon(header, buffer),
-        }
+            Mode::Reset => return frame::write_reset_beacon(header, buffer),
+        };
+        let management = ManagementWidth::try_from(numbers.management).unwrap();
+        frame::write_management_beacon(header, state, management, buffer)
     }
 
-    // Opens the next superframe, if none is open and the buffer has room for its beacon.
-    pub(crate) fn open(&mut self, numbers: Numbers, buffer: &mut [u8]) -> Result<Opened, Fault>
-        requires { NumbersKeep numbers }
-        ensures answer { result ≡ open_answer numbers self.old buffer.old }
-        ensures state { self.new ≡ open_state numbers self.old buffer.old }
-        ensures memory { buffer.new ≡ open_memory numbers self.old buffer.old }
+    // Opens the next superframe and writes its beacon into the buffer, while none is open.
+    pub fn open(&mut self, buffer: &mut [u8]) -> Result<Opened, Fault>
+        ensures answer { result ≡ open_answer (P.SlotPlan.meaning self.old.plan).numbers self.old.inner buffer.old }
+        ensures state { self.new.inner ≡ open_state (P.SlotPlan.meaning self.old.plan).numbers self.old.inner buffer.old }
+        ensures memory { buffer.new ≡ open_memory (P.SlotPlan.meaning self.old.plan).numbers self.old.inner buffer.old }
+        ensures plan { self.new.plan ≡ self.old.plan }
     {
-        if self.opened {
+        if self.inner.opened {
             return Err(Refusal::Superframe.at(0));
         }
-        let length = self.write_beacon(numbers, buffer)?;
-        self.opened = true;
+        let length = self.write_beacon(buffer)?;
+        self.inner.opened = true;
+        let number = self.inner.number;
         Ok(Opened {
             length,
-            superframe: OpenSuperframe {
-                number: self.number,
-            },
+            superframe: OpenSuperframe { number },
         })
     }
 }

@@ -1,12 +1,15 @@
 // A coordinator.
 ghost use Rattle.std.specs.Prelude.{◌≡◌};
-ghost use Rattle.coordinator.specs.Steps.{made, mode_answer, mode_state, open_answer, open_state, open_memory, close_answer, close_state, record_answer};
+ghost use Rattle.coordinator.specs.Steps.{made, mode_answer, mode_state, close_answer, close_state, record_answer};
 
-use super::state::{Inner, Mode, OpenSuperframe, Opened, Record};
-use frame::Fault;
+use super::state::{Inner, Mode, OpenSuperframe, Record};
+use frame::{Fault, Refusal};
 use plan::SlotPlan;
+use repeats::no_bits;
+use std::mem;
 
 // The coordinator of a network, by a slot plan.
+// Clauses name plan and state apart, and that the plan stays: one meaning for both would be no plainer, as the definitions of each call take the two.
 #[derive(Drop)]
 pub struct Coordinator<P> {
     pub(crate) plan: P,
@@ -47,17 +50,11 @@ impl<P: SlotPlan> Coordinator<P> {
         ensures state { self.new.inner ≡ mode_state self.old.inner mode }
         ensures plan { self.new.plan ≡ self.old.plan }
     {
-        self.inner.set_mode(mode)
-    }
-
-    // Opens the next superframe and writes its beacon into the buffer, while none is open.
-    pub fn open(&mut self, buffer: &mut [u8]) -> Result<Opened, Fault>
-        ensures answer { result ≡ open_answer (P.SlotPlan.meaning self.old.plan).numbers self.old.inner buffer.old }
-        ensures state { self.new.inner ≡ open_state (P.SlotPlan.meaning self.old.plan).numbers self.old.inner buffer.old }
-        ensures memory { buffer.new ≡ open_memory (P.SlotPlan.meaning self.old.plan).numbers self.old.inner buffer.old }
-        ensures plan { self.new.plan ≡ self.old.plan }
-    {
-        self.inner.open(self.plan.numbers(), buffer)
+        if self.inner.opened {
+            return Err(Refusal::Superframe.at(0));
+        }
+        self.inner.mode = mode;
+        Ok(())
     }
 
     // Closes the open superframe; what was heard in it is told by the next beacon. Any other superframe is handed back.
@@ -66,16 +63,22 @@ impl<P: SlotPlan> Coordinator<P> {
         ensures state { self.new.inner ≡ close_state self.old.inner superframe.number }
         ensures plan { self.new.plan ≡ self.old.plan }
     {
-        self.inner.close(superframe)
+        if !self.inner.is_open(superframe.number) {
+            return Err((Refusal::Superframe.at(0), superframe));
+        }
+        let OpenSuperframe { number } = superframe;
+        self.inner.opened = false;
+        self.inner.number = number.wrapping_add(1);
+        self.inner.last = 0;
+        self.inner.sent = mem::replace(&mut self.inner.gathered, no_bits());
+        Ok(())
     }
 
     // How far the device of grant i has come, or none where the plan has no such grant.
     pub fn record(&self, i: usize) -> Option<Record>
         ensures { result ≡ record_answer (P.SlotPlan.meaning self.now.plan) self.now.inner i }
     {
-        if i == 0 || i > self.plan.count() {
-            return None;
-        }
-        Some(self.inner.records[i - 1])
+        let place = i.checked_sub(1)?;
+        self.inner.records[..self.plan.count()].get(place).copied()
     }
 }

@@ -1,86 +1,12 @@
 // Hearing a data frame in a timeslot.
 ghost use Rattle.std.specs.Prelude.{◌≡◌, Some, Ok};
-ghost use Rattle.coordinator.specs.Beacons.{state_of};
-ghost use Rattle.coordinator.specs.Stages.{admitting};
-ghost use Rattle.coordinator.specs.Steps.{is_online, sending, listening, gathering, accepted, HearsFrom, Hears, hear_state};
+ghost use Rattle.coordinator.specs.Steps.{sending, listening, accepted, HearsFrom, Hears, hear_state};
 
 use super::coordinator::Coordinator;
-use super::state::{Heard, Inner, Mode, OpenSuperframe};
+use super::state::{Heard, Mode, OpenSuperframe};
 use cargo::Cargo;
 use frame::{Fault, Refusal};
-use plan::{Grant, Numbers, SlotPlan};
-use repeats::{Bitmap, marked};
-
-impl Mode {
-    // Whether data frames are heard.
-    fn is_online(self) -> bool
-        ensures { result ≡ is_online (state_of self) }
-    {
-        match self {
-            Mode::Online => true,
-            _ => false,
-        }
-    }
-}
-
-// A bitmap after a grant's frame was heard in timeslot t. A repeat sets no bit.
-fn gathered(bitmap: Bitmap, numbers: Numbers, grant: Grant, t: u8) -> Bitmap
-    ensures { result ≡ gathering numbers t bitmap grant }
-{
-    if t <= numbers.retransmission {
-        bitmap
-    } else {
-        marked(bitmap, numbers, grant)
-    }
-}
-
-impl Inner {
-    // Refuses a superframe that is not open, or not Online, a timeslot that is none, and one that is not above the last one accepted.
-    fn admit(&self, numbers: Numbers, number: u32, t: u8) -> Result<(), Fault>
-        ensures { result ≡ admitting numbers self.now number t }
-    {
-        if !self.is_open(number) {
-            return Err(Refusal::Superframe.at(0));
-        }
-        if !self.mode.is_online() {
-            return Err(Refusal::Mode.at(0));
-        }
-        if t == 0 || t > numbers.timeslots {
-            return Err(Refusal::Timeslot.at(t as usize));
-        }
-        if t <= self.last {
-            return Err(Refusal::Late.at(t as usize));
-        }
-        Ok(())
-    }
-
-    // Takes down that a grant's frame was heard in timeslot t.
-    fn accept(&mut self, numbers: Numbers, grant: Grant, t: u8)
-        ensures { self.new ≡ accepted numbers self.old t (Some grant) }
-    {
-        let gathered = gathered(self.gathered, numbers, grant, t);
-        self.last = t;
-        self.gathered = gathered;
-    }
-}
-
-// The cargo in a received data frame of a grant, if the grant carries as much.
-fn receive_from<C: Cargo + Drop>(
-    numbers: Numbers,
-    grant: Grant,
-    octets: &[u8],
-) -> Result<Heard<C>, Fault>
-    ensures { HearsFrom C.Cargo.image numbers (Ok grant) octets.now result }
-{
-    let cargo: C = cargo::receive(octets)?;
-    if cargo.length() > grant.carries(numbers.size) {
-        return Err(Refusal::Size.at(0));
-    }
-    Ok(Heard {
-        simple: grant.simple,
-        cargo,
-    })
-}
+use plan::{Grant, SlotPlan};
 
 impl<P: SlotPlan> Coordinator<P> {
     // The grant whose frame starts at timeslot t, by the bitmap that the open superframe's beacon carried.
@@ -95,10 +21,45 @@ impl<P: SlotPlan> Coordinator<P> {
     fn listening(&self, superframe: &OpenSuperframe, t: u8) -> Result<Grant, Fault>
         ensures { result ≡ listening (P.SlotPlan.meaning self.now.plan) self.now.inner superframe.now.number t }
     {
-        self.inner.admit(self.plan.numbers(), superframe.number, t)?;
-        match self.sending(t) {
-            Some(grant) => Ok(grant),
-            None => Err(Refusal::Nobody.at(t as usize)),
+        let place = usize::from(t);
+        if !self.inner.is_open(superframe.number) {
+            return Err(Refusal::Superframe.at(0));
+        }
+        if self.inner.mode != Mode::Online {
+            return Err(Refusal::Mode.at(0));
+        }
+        if t == 0 || t > self.plan.numbers().timeslots {
+            return Err(Refusal::Timeslot.at(place));
+        }
+        if t <= self.inner.last {
+            return Err(Refusal::Late.at(place));
+        }
+        self.sending(t).ok_or(Refusal::Nobody.at(place))
+    }
+
+    // The cargo in a received data frame of a grant, if the grant carries as much.
+    fn receive_from<C: Cargo + Drop>(&self, grant: Grant, octets: &[u8]) -> Result<Heard<C>, Fault>
+        ensures { HearsFrom C.Cargo.image (P.SlotPlan.meaning self.now.plan).numbers (Ok grant) octets.now result }
+    {
+        let cargo: C = cargo::receive(octets)?;
+        if cargo.length() > grant.carries(self.plan.numbers().size) {
+            return Err(Refusal::Size.at(0));
+        }
+        Ok(Heard {
+            simple: grant.simple,
+            cargo,
+        })
+    }
+
+    // Takes down that a grant's frame was heard in timeslot t. A repeat sets no bit.
+    fn accept(&mut self, grant: Grant, t: u8)
+        ensures state { self.new.inner ≡ accepted (P.SlotPlan.meaning self.old.plan).numbers self.old.inner t (Some grant) }
+        ensures plan { self.new.plan ≡ self.old.plan }
+    {
+        let numbers = self.plan.numbers();
+        self.inner.last = t;
+        if t > numbers.retransmission {
+            self.inner.gathered = repeats::marked(self.inner.gathered, numbers, grant);
         }
     }
 
@@ -114,9 +75,8 @@ impl<P: SlotPlan> Coordinator<P> {
         ensures plan { self.new.plan ≡ self.old.plan }
     {
         let grant = self.listening(superframe, timeslot)?;
-        let numbers = self.plan.numbers();
-        let heard = receive_from(numbers, grant, octets)?;
-        self.inner.accept(numbers, grant, timeslot);
+        let heard = self.receive_from(grant, octets)?;
+        self.accept(grant, timeslot);
         Ok(heard)
     }
 }

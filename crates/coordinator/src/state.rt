@@ -11,7 +11,7 @@ pub enum Mode {
 }
 
 // How far a grant's device has come.
-#[derive(Clone, Copy, Debug, PartialEq, Eq, Drop)]
+#[derive(Clone, Copy, Debug, PartialEq, Eq, Drop, Default)]
 pub struct Record {
     // A Discover Response of it was heard.
     pub seen: bool,
@@ -38,7 +38,7 @@ pub struct Heard<C> {
     pub cargo: C,
 }
 
-// The state of a coordinator, beside its plan.
+// The state of a coordinator, beside its plan. It is plain and of fixed size by the project's rule, with `opened` beside the number: the guarantee of every run names these fields.
 #[derive(Drop)]
 pub struct Inner {
     pub(crate) mode: Mode,

@@ -4,17 +4,10 @@
 ghost use Rattle.std.specs.Prelude.{◌≡◌, length};
 ghost use Rattle.known.specs.Known.{cases, KnownCasesHold};
 
-// How many claims there are.
-fn count() -> usize
-    ensures { result ≡ length cases }
-{
-    19
-}
-
 // How many claims the list of known examples has; `hold` says that each of them holds.
 pub fn known_cases() -> usize
     ensures count { result ≡ length cases }
     ensures hold { KnownCasesHold }
 {
-    count()
+    19
 }

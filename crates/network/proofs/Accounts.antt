@@ -1,6 +1,5 @@
 -- What a device may count on, from a book that agrees with a history.
 use Rattle.std.proofs.Common.{◌≡◌, ℕ, suc, ◌+◌, ◌<◌, ◌≤◌, Bool, true, false, cond, ◌⊎◌, List, [], ◌∷◌, ◌++◌, map, length, Some, None, Option, sym, refl, ap, ◌∙◌, subst, inl, inr, true≢false, arith}
-use mathlib.Core.Bool.{false≢true}
 use lib.ListN.{length-map}
 use Rattle.std.proofs.lemmas.Bool.{cases_eq, eq-eqb, ne_eqb, cond-true, cond-false}
 use Rattle.device.specs.declared.state.Device.{Device}
@@ -30,7 +29,7 @@ module _ {A : Type 0} where
       ]
 
   numbered_bound : (xs : List A) (k : ℕ) (z : A) → numbered xs k ≡ Some z → (1 ≤ k) × (k ≤ length xs)
-  numbered_bound [] k z h = let a : ◌≡◌ {A = ℕ} 0 1 = cc in absurd (omega arith)
+  numbered_bound [] k z h = absurd cc
   numbered_bound (x ∷ xs) k z h =
       elim (numbered_cases x xs k z h) [
         | inl e ↦ (let f = e.0 in (omega arith, omega arith))
@@ -46,7 +45,7 @@ module _ {A : Type 0} where
 
 module _ {A B : Type 0} (f : A → B) where
   pub numbered_map : (xs : List A) (k : ℕ) (x : A) → numbered xs k ≡ Some x → numbered (map f xs) k ≡ Some (f x)
-  numbered_map [] k x h = let a : ◌≡◌ {A = ℕ} 0 1 = cc in absurd (omega arith)
+  numbered_map [] k x h = absurd cc
   numbered_map (y ∷ ys) k x h =
       elim (numbered_cases y ys k x h) [
         | inl e ↦ numbered_top (f y) (map f ys) k (e.0 ∙ ap suc (sym (length-map ys f))) ∙ ap (λ w. Some (f w)) (sym e.1)
@@ -54,7 +53,7 @@ module _ {A B : Type 0} (f : A → B) where
       ]
 
   numbered_unmap : (xs : List A) (k : ℕ) (z : B) → numbered (map f xs) k ≡ Some z → (x : A) × (numbered xs k ≡ Some x) × (z ≡ f x)
-  numbered_unmap [] k z h = let a : ◌≡◌ {A = ℕ} 0 1 = cc in absurd (omega arith)
+  numbered_unmap [] k z h = absurd cc
   numbered_unmap (y ∷ ys) k z h =
       elim (numbered_cases (f y) (map f ys) k z h) [
         | inl e ↦ (y, numbered_top y ys k (e.0 ∙ ap suc (length-map ys f)), e.1)
@@ -86,7 +85,7 @@ module _ {C : Type 0} where
 
   arrival_top : (own : Bool) (y : Arrival C) (rest other : List (Arrival C)) → own ≡ true → Among y (cond own (y ∷ rest) other)
   arrival_top true y rest other o = inl refl
-  arrival_top false y rest other o = absurd (false≢true o)
+  arrival_top false y rest other o = absurd cc
 
   -- an arrival comes from the line with its number
   from_line : (book : List (Line C)) (a : Arrival C) → Among a (arrivals_of book) → (y : Line C) × (numbered book a.number ≡ Some y) × Of a.number y.cargo y.own y.again a
@@ -99,7 +98,7 @@ module _ {C : Type 0} where
 
   -- a line that was handed up from its own timeslot has an arrival
   to_arrival : (book : List (Line C)) (k : ℕ) (y : Line C) → numbered book k ≡ Some y → y.own ≡ true → (a : Arrival C) × Among a (arrivals_of book) × (a.number ≡ k) × (a.own ≡ true)
-  to_arrival [] k y h o = let a : ◌≡◌ {A = ℕ} 0 1 = cc in absurd (omega arith)
+  to_arrival [] k y h o = absurd cc
   to_arrival (x ∷ xs) k y h o =
       elim (numbered_cases x xs k y h) [
         | inl e ↦ (
@@ -127,7 +126,7 @@ module _ {C : Type 0} where
       falling_split y.own y.again _ _ (arrivals_of ys) (falling ys) below below
 
   just_at : (book : List (Line C)) (k : ℕ) (y : Line C) → AllJust book → numbered book k ≡ Some y → Just y
-  just_at [] k y j h = let a : ◌≡◌ {A = ℕ} 0 1 = cc in absurd (omega arith)
+  just_at [] k y j h = absurd cc
   just_at (x ∷ xs) k y j h =
       elim (numbered_cases x xs k y h) [
         | inl e ↦ subst (λ (w : Line C). Just w) (sym e.1) j.0
@@ -224,7 +223,7 @@ module _ {C : Type 0} where
           let o = told_arrival k u.0 a u.1 i e in
           elim o.handed [
             | inl t ↦ true≢false (sym t ∙ j.lost l)
-            | inr t ↦ (let r : ◌≡◌ {A = Fate} fate.Lost fate.Repeated = sym l ∙ j.again_only t in let z : ◌≡◌ {A = ℕ} 0 1 = cc in absurd (omega arith))
+            | inr t ↦ (let r : ◌≡◌ {A = Fate} fate.Lost fate.Repeated = sym l ∙ j.again_only t in absurd cc)
           ]
 
 -- which acceptances its frames carry is no matter of the book alone, and is handed in
@@ -268,7 +267,7 @@ arrivals_none r e (nothing ∷ ds) = arrivals_none r e ds
 none_told : (ts : List Telling) (k : ℕ) (x : Telling) → ts ≡ [] → numbered ts k ≡ Some x → ⊥
 none_told ts k x e h =
     let n : ◌≡◌ {A = Option Telling} None (Some x) = sym (ap (λ (l : List Telling). numbered l k) e) ∙ h in
-    let z : ◌≡◌ {A = ℕ} 0 1 = cc in absurd (omega arith)
+    absurd cc
 
 pub from_outside : {C : Type 0} (image : C → List ℕ) (m : PlanMeaning) (devices : Devices) (ds : List (Deed C)) (d : ℕ)
     → OwnFramesCarryTheirAcceptances m devices ds d image → RepeatsCarryWhatWasToldRepeated m devices ds d image → (v : Device C)

@@ -64,7 +64,7 @@ module _ {C : Type 0} where
 
   -- the own sendings before it are as many as the lines of the book
   before_flying : (s b : ℕ) (sent : Option C) (x : C) (book : List (Line C)) (ss : List ℕ) → sent ≡ Some x → s ∷ ss ≡ since b sent ++ map (λ y. y.sent) book → length ss ≡ length book
-  before_flying s b None x book ss flies e = let z : ◌≡◌ {A = ℕ} 0 1 = cc in absurd (omega arith)
+  before_flying s b None x book ss flies e = absurd cc
   before_flying s b (Some y) x book ss flies e = let a = ap length e in let c = length-map book (λ (l : Line C). l.sent) in omega arith
 
   -- the top line of the book
@@ -87,7 +87,7 @@ module _ {C : Type 0} (image : C → List ℕ) (m : PlanMeaning) (devices : Devi
   r = m.numbers.retransmission
 
   pub begun_carries : Carries []
-  begun_carries = record { own = λ k xs h. (let z : ◌≡◌ {A = ℕ} 0 1 = cc in absurd (omega arith)); again = λ y none. absurd none }
+  begun_carries = record { own = λ k xs h. (absurd cc); again = λ y none. absurd none }
 
   module _ (ds : List (Deed C)) (c : Carries ds) where
     -- an acceptance or a telling is put in front of the earlier ones

@@ -120,9 +120,9 @@ module _ {C : Type 0} (image : C → List ℕ) (n : Numbers) (e : ℕ) (g : Gran
 
   -- cargo is accepted where none waits
   accepting : (c : Option Configuration) (w : Option C) (x : C) → Ok tt ≡ offer_answer_in image c w x → w ≡ None
-  accepting None w x q = let z : ◌≡◌ {A = ℕ} 0 1 = cc in absurd (omega arith)
+  accepting None w x q = absurd cc
   accepting (Some c) None x q = refl
-  accepting (Some c) (Some y) x q = let z : ◌≡◌ {A = ℕ} 0 1 = cc in absurd (omega arith)
+  accepting (Some c) (Some y) x q = absurd cc
 
   held : (v : Device C) (ds : List (Deed C)) (x : C) → v.waiting ≡ None → Kept v ds → Kept (holding v x) (acceptance e x ∷ ds)
   held v ds x none s =
@@ -159,17 +159,17 @@ module _ {C : Type 0} (image : C → List ℕ) (n : Numbers) (e : ℕ) (g : Gran
   took_by v ds (Ok (device.configured c)) xs (Ok tt) count q keeps own s =
       refitted_taking v ds v.wish phase.Thanking (Some c) v.news
       (λ d h. let same : d ≡ c = cc in same ∙ own keeps c refl)
-      (λ h. let z : ◌≡◌ {A = ℕ} 0 1 = cc in absurd (omega arith)) xs s
-  took_by v ds (Err f) xs (Ok tt) count q keeps own s = let z : ◌≡◌ {A = ℕ} 0 1 = cc in absurd (omega arith)
-  took_by v ds (Ok device.acknowledgment) xs (Err f) count q keeps own s = let z : ◌≡◌ {A = ℕ} 0 1 = cc in absurd (omega arith)
-  took_by v ds (Ok (device.configured c)) xs (Err f) count q keeps own s = let z : ◌≡◌ {A = ℕ} 0 1 = cc in absurd (omega arith)
+      (λ h. absurd cc) xs s
+  took_by v ds (Err f) xs (Ok tt) count q keeps own s = absurd cc
+  took_by v ds (Ok device.acknowledgment) xs (Err f) count q keeps own s = absurd cc
+  took_by v ds (Ok (device.configured c)) xs (Err f) count q keeps own s = absurd cc
   took_by v ds (Err f) xs (Err h) count q keeps own s = idle v ds s
 
 -- a configuration that is taken is the one that came, to this device
 passed : (b k : Bool) (f h : Fault) (c d : Configuration) → ◌≡◌ {A = Result Taken Fault} (cond b (Err f) (cond k (Ok (device.configured d)) (Err h))) (Ok (device.configured c)) → (b ≡ false) × (c ≡ d)
-passed true k f h c d q = let z : ◌≡◌ {A = ℕ} 0 1 = cc in absurd (omega arith)
+passed true k f h c d q = absurd cc
 passed false true f h c d q = (refl, cc)
-passed false false f h c d q = let z : ◌≡◌ {A = ℕ} 0 1 = cc in absurd (omega arith)
+passed false false f h c d q = absurd cc
 
 module _ {C : Type 0} (m : PlanMeaning) (v : Device C) where
   -- a configuration that is taken of one of the coordinator's replies is that of the grant with the device's address
@@ -177,20 +177,20 @@ module _ {C : Type 0} (m : PlanMeaning) (v : Device C) where
   Given c = (i : ℕ) × (g : Grant) × (grant_at m i ≡ Some g) × (g.address ≡ v.address) × (c ≡ configuration_for m.numbers g)
 
   asked : (asking : Bool) (i : ℕ) (g : Grant) (c : Configuration) → grant_at m i ≡ Some g → taken_by v asking (command_frame (commands.ConfigurationRequest g.address (configuration_for m.numbers g))) ≡ Ok (device.configured c) → Given c
-  asked false i g c at q = let z : ◌≡◌ {A = ℕ} 0 1 = cc in absurd (omega arith)
+  asked false i g c at q = absurd cc
   asked true i g c at q =
       let p = passed (not (eqb g.address v.address) || device.estranged v.configuration (configuration_for m.numbers g)) _ _ _ c (configuration_for m.numbers g) q in
       (i, g, at, eqb-true _ _ (not-false _ (or_parts _ _ p.0).0), p.1)
 
   thanked_only : (asking : Bool) (c : Configuration) → taken_by v asking (acknowledgment_frame acknowledgments.DiscoverResponse) ≡ Ok (device.configured c) → ⊥
-  thanked_only false c q = let z : ◌≡◌ {A = ℕ} 0 1 = cc in absurd (omega arith)
-  thanked_only true c q = let z : ◌≡◌ {A = ℕ} 0 1 = cc in absurd (omega arith)
+  thanked_only false c q = absurd cc
+  thanked_only true c q = absurd cc
 
   module _ (rules : Rules m) where
     given_as : (asking : Bool) (xs : List ℕ) (c : Configuration) → ReplyOf m xs → taken_as v asking (reading xs) ≡ Ok (device.configured c) → Given c
     given_as asking xs c (inl empty) q =
         let h : taken_as v asking (reading []) ≡ Ok (device.configured c) = subst (λ (l : List ℕ). taken_as v asking (reading l) ≡ Ok (device.configured c)) empty q in
-        let z : ◌≡◌ {A = ℕ} 0 1 = cc in absurd (omega arith)
+        absurd cc
     given_as asking xs c (inr (inl thanks)) q =
         absurd (thanked_only asking c (subst (λ (l : List ℕ). taken_as v asking (reading l) ≡ Ok (device.configured c)) thanks q))
     given_as asking xs c (inr (inr (i, g, at, request))) q =
@@ -199,13 +199,13 @@ module _ {C : Type 0} (m : PlanMeaning) (v : Device C) where
         asked asking i g c at (subst (λ (t : Result Told Fault). taken_as v asking t ≡ Ok (device.configured c)) back h)
 
     given_in : (p : Phase) (xs : List ℕ) (c : Configuration) → ReplyOf m xs → taken_in v p xs ≡ Ok (device.configured c) → Given c
-    given_in phase.Idle xs c reply q = let z : ◌≡◌ {A = ℕ} 0 1 = cc in absurd (omega arith)
+    given_in phase.Idle xs c reply q = absurd cc
     given_in phase.Answering xs c reply q = given_as false xs c reply q
-    given_in phase.Known xs c reply q = let z : ◌≡◌ {A = ℕ} 0 1 = cc in absurd (omega arith)
+    given_in phase.Known xs c reply q = absurd cc
     given_in phase.Asking xs c reply q = given_as true xs c reply q
-    given_in phase.Thanking xs c reply q = let z : ◌≡◌ {A = ℕ} 0 1 = cc in absurd (omega arith)
-    given_in phase.Set xs c reply q = let z : ◌≡◌ {A = ℕ} 0 1 = cc in absurd (omega arith)
-    given_in phase.Running xs c reply q = let z : ◌≡◌ {A = ℕ} 0 1 = cc in absurd (omega arith)
+    given_in phase.Thanking xs c reply q = absurd cc
+    given_in phase.Set xs c reply q = absurd cc
+    given_in phase.Running xs c reply q = absurd cc
 
     given : (xs : List ℕ) (c : Configuration) → ReplyOf m xs → device.taking v xs ≡ Ok (device.configured c) → Given c
     given xs c reply q = given_in v.phase xs c reply q
@@ -222,7 +222,7 @@ module _ {C : Type 0} (image : C → List ℕ) (n : Numbers) (g : Grant) (t : �
   fresh_turns c (Some x) (Some y) r h = tt
   fresh_turns c (Some x) None r h =
       cond_both (ltb (device.room_in c) (length (image x))) silent (fresh x) (Turns (Some c) (Some x) None r) (λ _. tt)
-      (λ _. (λ z. let y : ◌≡◌ {A = ℕ} 0 1 = cc in absurd (omega arith), refl, refl, h))
+      (λ _. (λ z. absurd cc, refl, refl, h))
 
   again_turns : (c : Option Configuration) (w o : Option C) (r : Option (Repeat C)) → Turns c w o r (device.again_turn t r)
   again_turns c w o None = tt
@@ -249,7 +249,7 @@ module _ {C : Type 0} (image : C → List ℕ) (n : Numbers) (e : ℕ) (g : Gran
   fresh_frames x y none own (inl new) d k = (aware, inl (record { timeslot = ap (λ (z : Sending). z.timeslot) new ∙ own; cargo = x; sent = refl; octets = ap (λ (z : Sending). z.octets) new }))
   fresh_frames x y none own (inr old) d k =
       elim (s.frames refl y old d k).1 [
-        | inl f ↦ let before = f.sent in let z : ◌≡◌ {A = ℕ} 0 1 = cc in absurd (omega arith)
+        | inl f ↦ let before = f.sent in absurd cc
         | inr f ↦ (aware, inr (record { cargo = f.cargo; to_repeat = f.to_repeat; octets = f.octets; spent = f.spent; once = f.once }))
       ]
 
@@ -274,7 +274,7 @@ module _ {C : Type 0} (image : C → List ℕ) (n : Numbers) (e : ℕ) (g : Gran
         };
         unheard = s.unheard;
         late = s.late;
-        quiet = λ h. let z : ◌≡◌ {A = ℕ} 0 1 = cc in absurd (omega arith);
+        quiet = λ h. absurd cc;
         due = s.due;
         frames = λ _ y among d k. fresh_frames x y none own among d k;
       }
@@ -289,7 +289,7 @@ module _ {C : Type 0} (image : C → List ℕ) (n : Numbers) (e : ℕ) (g : Gran
   again_frames x y some (inr old) d k =
       elim (s.frames refl y old d k).1 [
         | inl f ↦ (aware, inl (record { timeslot = f.timeslot; cargo = f.cargo; sent = f.sent; octets = f.octets }))
-        | inr f ↦ let before = f.spent in let z : ◌≡◌ {A = ℕ} 0 1 = cc in absurd (omega arith)
+        | inr f ↦ let before = f.spent in absurd cc
       ]
 
   again_sent : (x : C) → v.repeat ≡ Some (record { start = t; cargo = x }) → 1 ≤ g.width → Then (after_turn v (again x)) (transmission e t (frame_with image n x) ∷ ds)
@@ -315,14 +315,14 @@ module _ {C : Type 0} (image : C → List ℕ) (n : Numbers) (e : ℕ) (g : Gran
         unheard = s.unheard;
         late = s.late;
         quiet = s.quiet;
-        due = λ r h. let z : ◌≡◌ {A = ℕ} 0 1 = cc in absurd (omega arith);
+        due = λ r h. absurd cc;
         frames = λ _ y among d k. again_frames x y some among d k;
       }
 
 -- how many octets were written
 sized : (a b : Bool) (f h : Fault) (j l : ℕ) → ◌≡◌ {A = Result ℕ Fault} (Ok l) (cond a (Err f) (cond b (Err h) (Ok j))) → l ≡ j
-sized true b f h j l q = let z : ◌≡◌ {A = ℕ} 0 1 = cc in absurd (omega arith)
-sized false true f h j l q = let z : ◌≡◌ {A = ℕ} 0 1 = cc in absurd (omega arith)
+sized true b f h j l q = absurd cc
+sized false true f h j l q = absurd cc
 sized false false f h j l q = cc
 
 -- octets that were written are those that were sent
@@ -334,7 +334,7 @@ transmitted e t a xs buffer memory l q p =
 -- a superframe is open where its beacon was announced
 pub open_now : (o : Bool) (a : Option (List ℕ)) (xs : List ℕ) → a ≡ cond o (Some xs) None → is_some a ≡ true → o ≡ true
 open_now true a xs q h = refl
-open_now false a xs q h = let never : is_some a ≡ false = ap is_some q in absurd (both_ways _ never h)
+open_now false a xs q h = let never : is_some a ≡ false = ap is_some q in absurd cc
 
 module _ {C : Type 0} (image : C → List ℕ) (m : PlanMeaning) (rules : Rules m) (e i : ℕ) (g : Grant) (at : grant_at m i ≡ Some g) (k : Inner) (v : Device C) (ds : List (Deed C)) (steady : Steady m k ds) where
   abbrev pub S : Device C → List (Deed C) → Type 0
@@ -431,7 +431,7 @@ module _ {C : Type 0} (e : ℕ) (v : Device C) (ds : List (Deed C)) (o : Outside
   pub outside_offered : (image : C → List ℕ) (x : C) (r : Result (Unit {0}) Fault) → r ≡ offer_answer image v x → Outside e (offer_state image v x) (deed (is_offered e x r) ∷ ds)
   outside_offered image x (Ok tt) q =
       let mode : Ok tt ≡ offer_answer_in image None v.waiting x = subst (λ (c : Option Configuration). Ok tt ≡ offer_answer_in image c v.waiting x) o.unconfigured q in
-      let z : ◌≡◌ {A = ℕ} 0 1 = cc in absurd (omega arith)
+      absurd cc
   outside_offered image x (Err f) q = rw (← q) outside_idle
 
   pub outside_written : (buffer : List ℕ) (r : Result ℕ Fault) (memory : List ℕ) → r ≡ write_answer v buffer → Outside e (write_state v buffer) (deed (writes_management e buffer r memory) ∷ ds)
@@ -443,9 +443,9 @@ module _ {C : Type 0} (e : ℕ) (v : Device C) (ds : List (Deed C)) (o : Outside
   outside_took_by : (t : Result Taken Fault) (xs : List ℕ) (r : Result (Unit {0}) Fault) (count : ℕ) → r ≡ take_answer_by t → KeepsRules count ds (deed (takes_management e xs r)) → (Among xs (replies ds) → (c : Configuration) → t ≡ Ok (device.configured c) → ⊥) → Outside e (take_state_by v t) (deed (takes_management e xs r) ∷ ds)
   outside_took_by (Ok device.acknowledgment) xs (Ok tt) count q keeps never = outside_taking v.wish phase.Known v.news xs
   outside_took_by (Ok (device.configured c)) xs (Ok tt) count q keeps never = absurd (never keeps c refl)
-  outside_took_by (Err f) xs (Ok tt) count q keeps never = let z : ◌≡◌ {A = ℕ} 0 1 = cc in absurd (omega arith)
-  outside_took_by (Ok device.acknowledgment) xs (Err f) count q keeps never = let z : ◌≡◌ {A = ℕ} 0 1 = cc in absurd (omega arith)
-  outside_took_by (Ok (device.configured c)) xs (Err f) count q keeps never = let z : ◌≡◌ {A = ℕ} 0 1 = cc in absurd (omega arith)
+  outside_took_by (Err f) xs (Ok tt) count q keeps never = absurd cc
+  outside_took_by (Ok device.acknowledgment) xs (Err f) count q keeps never = absurd cc
+  outside_took_by (Ok (device.configured c)) xs (Err f) count q keeps never = absurd cc
   outside_took_by (Err f) xs (Err h) count q keeps never = outside_idle
 
   pub outside_took : (m : PlanMeaning) → Rules m → (k : Inner) → Steady m k ds → ((i : ℕ) (g : Grant) → grant_at m i ≡ Some g → g.address ≡ v.address → ⊥) → (xs : List ℕ) (r : Result (Unit {0}) Fault) (count : ℕ) → r ≡ device.take_answer v xs → KeepsRules count ds (deed (takes_management e xs r)) → Outside e (device.take_state v xs) (deed (takes_management e xs r) ∷ ds)

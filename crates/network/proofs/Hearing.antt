@@ -1,7 +1,7 @@
 -- A data frame that is heard keeps every device sound: the one that sent it, and the others.
 use Rattle.std.proofs.Common.{◌≡◌, ℕ, suc, ◌<◌, ◌≤◌, Bool, true, false, cond, ◌&&◌, ◌⊎◌, List, [], ◌∷◌, ◌++◌, map, length, Some, None, Ok, Option, sym, refl, ap, ◌∙◌, subst, inl, inr, ⊎_elim, arith}
 use lib.ListN.{length-map}
-use Rattle.std.proofs.lemmas.Bool.{both_ways, cases_lt, cond-true, cond-false, eq-eqb, ne_eqb, le-leb, lt-leb}
+use Rattle.std.proofs.lemmas.Bool.{cases_lt, cond-true, cond-false, eq-eqb, ne_eqb, le-leb, lt-leb}
 use Rattle.plan.specs.declared.grant.Grant.{Grant}
 use Rattle.plan.specs.Rules.{PlanMeaning, Rules, grant_at}
 use Rattle.plan.specs.Answers.{number_with}
@@ -42,7 +42,7 @@ pub grant_found : (m : PlanMeaning) → Rules m → (a : ℕ) (g : Grant) → gr
 grant_found m rules a g found = named (number_with m a) refl found
   where
     named : (o : Option ℕ) → number_with m a ≡ o → granted m o ≡ Some g → (i : ℕ) × (grant_at m i ≡ Some g) × (g.address ≡ a)
-    named None e q = let z : ◌≡◌ {A = ℕ} 0 1 = cc in absurd (omega arith)
+    named None e q = absurd cc
     named (Some i) e q =
         let w = (names_addressed m rules a i).0 e in
         let same : w.0 ≡ g = cc in
@@ -96,9 +96,9 @@ module _ {C : Type 0} (image : C → List ℕ) (m : PlanMeaning) (rules : Rules 
             bound = s.bound;
             book = s.book;
             agrees = own_agrees;
-            unheard = λ _ unaware. absurd (both_ways _ unaware aware);
+            unheard = λ _ unaware. absurd cc;
             late = λ _ _ _. omega arith;
-            quiet = λ none. let z : ◌≡◌ {A = ℕ} 0 1 = cc in absurd (omega arith);
+            quiet = λ none. absurd cc;
             due = s.due;
             frames = λ o y among device superframe. let f = s.frames o y among device superframe in (f.0, ⊎_elim (λ a. inl a) (λ b. inr (still b)) f.1);
           })
@@ -174,7 +174,7 @@ module _ {C : Type 0} (image : C → List ℕ) (m : PlanMeaning) (rules : Rules 
             unheard = s.unheard;
             late = λ o a b. let l = s.late o a b in omega arith;
             quiet = s.quiet;
-            due = λ r some _ _. let z : ◌≡◌ {A = ℕ} 0 1 = cc in absurd (omega arith);
+            due = λ r some _ _. absurd cc;
             frames = λ o y among device superframe. let f = s.frames o y among device superframe in (f.0, ⊎_elim (λ a. inl a) (λ b. inr (still b)) f.1);
           })
         where

@@ -1,5 +1,5 @@
 -- What holds after every run.
-use Rattle.std.proofs.Common.{◌≡◌, ℕ, zero, suc, ◌<◌, ◌≤◌, true, false, eqb, List, [], ◌∷◌, length, take, is_some, Some, None, Ok, Err, Option, Result, sym, refl, ap, ◌∙◌, subst, inl, inr, arith}
+use Rattle.std.proofs.Common.{◌≡◌, ℕ, zero, suc, ◌<◌, ◌≤◌, true, false, eqb, List, [], ◌∷◌, length, take, is_some, Some, None, Ok, Err, Option, Result, sym, refl, ap, ◌∙◌, subst, inl, inr}
 use Rattle.std.specs.Option.{option_map}
 use Rattle.std.proofs.lemmas.Bool.{cases_eq, eq-eqb, ne_eqb}
 use Rattle.frame.specs.declared.faults.Fault.{Fault}
@@ -123,8 +123,7 @@ module _ {C : Type 0} (image : C → List ℕ) (short : (x : C) → length (imag
   nobody a none i g at is =
       let number = (names_addressed m rules a i).1 (g, at, is) in
       let found : grant_of m a ≡ Some g = ap (coordinator.granted m) number ∙ at in
-      let z : ◌≡◌ {A = ℕ} 0 1 = cc in
-      omega arith
+      cc
 
   module _ (k : Inner) (ds : List (Deed C)) (steady : Steady m k ds) (e a : ℕ) (v : Device C) (address : v.address ≡ a) where
     abbrev Own : Option Grant → Device C → List (Deed C) → Type 0

@@ -95,10 +95,10 @@ module _ {C : Type 0} (image : C → List ℕ) (n : Numbers) (e : ℕ) (g : Gran
         sent_since = rw itself refl;
         waits = s.agrees.waits;
       };
-      unheard = rw itself (λ o l. absurd (both_ways _ l refl));
-      late = λ o l h. absurd (both_ways _ unheard h);
+      unheard = rw itself (λ o l. absurd cc);
+      late = λ o l h. absurd (cc unheard);
       quiet = rw itself (λ _. unheard);
-      due = λ r h. let z : ◌≡◌ {A = ℕ} 0 1 = cc in absurd (omega arith);
+      due = λ r h. absurd cc;
       frames = λ o x among d k. never x among d k;
     }
 
@@ -118,8 +118,8 @@ module _ {C : Type 0} (image : C → List ℕ) (n : Numbers) (e : ℕ) (g : Gran
         sent_since = rw itself refl;
         waits = s.agrees.waits;
       };
-      unheard = rw itself (λ o l. absurd (both_ways _ l refl));
-      late = λ o l h. absurd (both_ways _ unheard h);
+      unheard = rw itself (λ o l. absurd cc);
+      late = λ o l h. absurd (cc unheard);
       quiet = rw itself (λ _. unheard);
       due = λ r h _ _. let p = repeats r h in (record { top = line (announces_online b) φ x; rest = s.book; book_is = refl; fate = p.0; cargo = sym p.1; starts = p.2 }, refl);
       frames = λ o x among d k. never x among d k;
@@ -128,11 +128,11 @@ module _ {C : Type 0} (image : C → List ℕ) (n : Numbers) (e : ℕ) (g : Gran
 -- a line that is told Unknown without an Online beacon
 unknown : {C : Type 0} (x : C) (j : ℕ) (own : Bool) → Just (record { cargo = x; sent = j; own = own; again = false; fate = fate.Unknown; online = false })
 unknown x j own = record {
-  confirmed = λ h. let z : ◌≡◌ {A = ℕ} 0 1 = cc in absurd (omega arith);
-  handed_up = λ _ h. let z : ◌≡◌ {A = ℕ} 0 1 = cc in absurd (omega arith);
-  repeated = λ h. let z : ◌≡◌ {A = ℕ} 0 1 = cc in absurd (omega arith);
-  again_only = λ h. let z : ◌≡◌ {A = ℕ} 0 1 = cc in absurd (omega arith);
-  lost = λ h. let z : ◌≡◌ {A = ℕ} 0 1 = cc in absurd (omega arith);
+  confirmed = λ h. absurd cc;
+  handed_up = λ _ h. absurd cc;
+  repeated = λ h. absurd cc;
+  again_only = λ h. absurd cc;
+  lost = λ h. absurd cc;
 }
 
 -- a line whose fate an Online beacon tells
@@ -140,22 +140,22 @@ told_online : {C : Type 0} (x : C) (j : ℕ) (own : Bool) (room : Option ℕ) �
 told_online x j true room = record {
   confirmed = λ h. (refl, refl);
   handed_up = λ _ _. refl;
-  repeated = λ h. let z : ◌≡◌ {A = ℕ} 0 1 = cc in absurd (omega arith);
-  again_only = λ h. let z : ◌≡◌ {A = ℕ} 0 1 = cc in absurd (omega arith);
-  lost = λ h. let z : ◌≡◌ {A = ℕ} 0 1 = cc in absurd (omega arith);
+  repeated = λ h. absurd cc;
+  again_only = λ h. absurd cc;
+  lost = λ h. absurd cc;
 }
 told_online x j false None = record {
-  confirmed = λ h. let z : ◌≡◌ {A = ℕ} 0 1 = cc in absurd (omega arith);
-  handed_up = λ h _. let z : ◌≡◌ {A = ℕ} 0 1 = cc in absurd (omega arith);
+  confirmed = λ h. absurd cc;
+  handed_up = λ h _. absurd cc;
   repeated = λ _. refl;
-  again_only = λ h. let z : ◌≡◌ {A = ℕ} 0 1 = cc in absurd (omega arith);
+  again_only = λ h. absurd cc;
   lost = λ _. refl;
 }
 told_online x j false (Some s) = record {
-  confirmed = λ h. let z : ◌≡◌ {A = ℕ} 0 1 = cc in absurd (omega arith);
-  handed_up = λ h _. let z : ◌≡◌ {A = ℕ} 0 1 = cc in absurd (omega arith);
+  confirmed = λ h. absurd cc;
+  handed_up = λ h _. absurd cc;
   repeated = λ _. refl;
-  again_only = λ h. let z : ◌≡◌ {A = ℕ} 0 1 = cc in absurd (omega arith);
+  again_only = λ h. absurd cc;
   lost = λ _. refl;
 }
 
@@ -203,7 +203,7 @@ zero_bit n xs g s h = not-true _ (and_parts (ltb n.retransmission g.first) (not 
 
 -- a repeat is of the cargo, at the start
 repeat_is : {C : Type 0} (o : Option ℕ) (x : C) (r : Repeat C) → device.to_repeat o x ≡ Some r → (o ≡ Some r.start) × (r.cargo ≡ x)
-repeat_is None x r q = let z : ◌≡◌ {A = ℕ} 0 1 = cc in absurd (omega arith)
+repeat_is None x r q = absurd cc
 repeat_is (Some s) x r q = let same : record { start = s; cargo = x } ≡ r = cc in (ap (λ (y : Repeat _). Some y.start) same, sym (ap (λ (y : Repeat _). y.cargo) same))
 
 module _ {C : Type 0} (n : Numbers) (keep : NumbersKeep n) (g : Grant) (fits : g.first ≤ n.timeslots) (sent : List ℕ) (x : C) (j : ℕ) where
@@ -231,13 +231,13 @@ module _ {C : Type 0} (n : Numbers) (keep : NumbersKeep n) (g : Grant) (fits : g
       let starts : repeat_start n sent g ≡ Some r.start = sym repeat_online ∙ p.0 in
       let told_so : cond (acknowledged n sent g.first) fate.Confirmed (by_room (repeat_start n sent g)) ≡ fate.Repeated = rw (zero_bit n sent g r.start starts, starts) refl in
       (fate_online ∙ told_so, p.1, starts)
-  repeats_by discovery r q = let z : ◌≡◌ {A = ℕ} 0 1 = cc in absurd (omega arith)
-  repeats_by configuration r q = let z : ◌≡◌ {A = ℕ} 0 1 = cc in absurd (omega arith)
-  repeats_by reset r q = let z : ◌≡◌ {A = ℕ} 0 1 = cc in absurd (omega arith)
+  repeats_by discovery r q = absurd cc
+  repeats_by configuration r q = absurd cc
+  repeats_by reset r q = absurd cc
 
 -- what a beacon keeps of a configuration was there before
 kept_before : (reset : Bool) (c : Option Configuration) (d : Configuration) → cond reset None c ≡ Some d → c ≡ Some d
-kept_before true c d q = let z : ◌≡◌ {A = ℕ} 0 1 = cc in absurd (omega arith)
+kept_before true c d q = absurd cc
 kept_before false c d q = q
 
 module _ {C : Type 0} (image : C → List ℕ) (n : Numbers) (e : ℕ) (g : Grant) (gathered sent : List ℕ) (last : ℕ) (v : Device C) (ds : List (Deed C)) (counted : 1 ≤ superframes ds) (unaware : learned e ds ≡ false) (s : Sound image n e g true gathered sent last v ds) where
@@ -248,7 +248,7 @@ module _ {C : Type 0} (image : C → List ℕ) (n : Numbers) (e : ℕ) (g : Gran
   missed_with None q = without image n e g gathered sent last v ds v.phase v.configuration brought.Missed s.configured None counted unaware s q
   missed_with (Some x) q =
       with_line image n e g gathered sent last v ds v.phase v.configuration brought.Missed s.configured None counted unaware s x fate.Unknown None q
-      (unknown x _ _) (λ r h. let z : ◌≡◌ {A = ℕ} 0 1 = cc in absurd (omega arith))
+      (unknown x _ _) (λ r h. absurd cc)
 
   missed_then : Next (device.missed_state v) (news e None (device.missed_answer v) ∷ ds)
   missed_then = missed_with v.sent refl
@@ -272,7 +272,7 @@ module _ {C : Type 0} (image : C → List ℕ) (n : Numbers) (e : ℕ) (g : Gran
     taken_with : (o : Option C) (c : Option Configuration) → v.sent ≡ o → v.configuration ≡ c → Next (after (device.repeated_by v.address c o b)) (news e (Some heard) (device.told_by v.address c o b) ∷ ds)
     taken_with None None q p = without image n e g gathered sent last v ds _ _ _ kept (Some heard) counted unaware s q
     taken_with None (Some c) q p = without image n e g gathered sent last v ds _ _ _ kept (Some heard) counted unaware s q
-    taken_with (Some x) None q p = let none = s.bound p in let z : ◌≡◌ {A = ℕ} 0 1 = cc in absurd (omega arith)
+    taken_with (Some x) None q p = let none = s.bound p in absurd cc
     taken_with (Some x) (Some c) q p =
         subst (λ (a : ℕ). ToldWith x a c) (sym s.address)
         (subst (λ (d : Configuration). ToldWith x g.address d) (sym (s.configured c p))
@@ -285,7 +285,7 @@ module _ {C : Type 0} (image : C → List ℕ) (n : Numbers) (e : ℕ) (g : Gran
 -- where a beacon was announced, a superframe is open, and it is the coordinator's
 beacon_now : (o : Bool) (a : Option (List ℕ)) (xs ys : List ℕ) → a ≡ cond o (Some xs) None → a ≡ Some ys → (o ≡ true) × (ys ≡ xs)
 beacon_now true a xs ys q h = (refl, cc)
-beacon_now false a xs ys q h = let z : ◌≡◌ {A = ℕ} 0 1 = cc in absurd (omega arith)
+beacon_now false a xs ys q h = absurd cc
 
 module _ {C : Type 0} (image : C → List ℕ) (m : PlanMeaning) (rules : Rules m) (e i : ℕ) (g : Grant) (at : grant_at m i ≡ Some g) (k : Inner) (v : Device C) (ds : List (Deed C)) (steady : Steady m k ds) where
   abbrev Now : Device C → List (Deed C) → Type 0
@@ -306,13 +306,13 @@ module _ {C : Type 0} (image : C → List ℕ) (m : PlanMeaning) (rules : Rules 
       let is : Ok b ≡ admitted v.configuration (said_in (state_of k.mode) m.numbers k.sent) = q ∙ taken_is m.numbers rules.framed.numbers k.sent v.configuration (state_of k.mode) in
       elim (admits v.configuration (said_in (state_of k.mode) m.numbers k.sent)) [
         | inl ok ↦ let both = is ∙ ok in cc
-        | inr bad ↦ let both : Ok b ≡ Err bad.0 = is ∙ bad.1 in let z : ◌≡◌ {A = ℕ} 0 1 = cc in absurd (omega arith)
+        | inr bad ↦ let both : Ok b ≡ Err bad.0 = is ∙ bad.1 in absurd cc
       ]
 
   beaconed_by : (t : Result Beacon Fault) (xs : List ℕ) (r : Result (Option Fate) Fault) (count : ℕ) → t ≡ beacon_taken v.configuration xs → r ≡ device.beacon_answer_by v t → KeepsRules count ds (deed (takes_beacon e xs r)) → Now v ds → Now (device.beacon_state_by v t) (deed (takes_beacon e xs r) ∷ ds)
-  beaconed_by (Err f) xs (Ok φ) count p q keeps s = let z : ◌≡◌ {A = ℕ} 0 1 = cc in absurd (omega arith)
+  beaconed_by (Err f) xs (Ok φ) count p q keeps s = absurd cc
   beaconed_by (Err f) xs (Err h) count p q keeps s = idle image m.numbers e g k.opened k.gathered k.sent k.last v ds s
-  beaconed_by (Ok b) xs (Err h) count p q keeps s = let z : ◌≡◌ {A = ℕ} 0 1 = cc in absurd (omega arith)
+  beaconed_by (Ok b) xs (Err h) count p q keeps s = absurd cc
   beaconed_by (Ok b) xs (Ok φ) count p q keeps s =
       let now = beacon_now k.opened (announced ds) (beacon_of m.numbers k) xs steady.announces keeps.0 in
       let opened = now.0 in
@@ -359,12 +359,12 @@ module _ {C : Type 0} (e : ℕ) (v : Device C) (ds : List (Deed C)) (o : Outside
   untold : (b : Beacon) (c : Option Configuration) (x : Option C) → x ≡ None → device.told_by v.address c x b ≡ None
   untold b None None q = refl
   untold b (Some c) None q = refl
-  untold b c (Some x) q = let z : ◌≡◌ {A = ℕ} 0 1 = cc in absurd (omega arith)
+  untold b c (Some x) q = absurd cc
 
   outside_beaconed_by : (t : Result Beacon Fault) (xs : List ℕ) (r : Result (Option Fate) Fault) → r ≡ device.beacon_answer_by v t → Outside e (device.beacon_state_by v t) (deed (takes_beacon e xs r) ∷ ds)
-  outside_beaconed_by (Err f) xs (Ok φ) q = let z : ◌≡◌ {A = ℕ} 0 1 = cc in absurd (omega arith)
+  outside_beaconed_by (Err f) xs (Ok φ) q = absurd cc
   outside_beaconed_by (Err f) xs (Err h) q = outside_idle e v ds o
-  outside_beaconed_by (Ok b) xs (Err h) q = let z : ◌≡◌ {A = ℕ} 0 1 = cc in absurd (omega arith)
+  outside_beaconed_by (Ok b) xs (Err h) q = absurd cc
   outside_beaconed_by (Ok b) xs (Ok φ) q =
       let fates : φ ≡ device.told_by v.address v.configuration v.sent b = cc in
       subst (λ (ψ : Option Fate). Outside e (device.informed v b) (news e (Some xs) ψ ∷ ds)) (sym (fates ∙ untold b v.configuration v.sent o.no_sent))

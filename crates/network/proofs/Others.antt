@@ -1,5 +1,5 @@
 -- What happens elsewhere keeps how a device stands.
-use Rattle.std.proofs.Common.{◌≡◌, ℕ, zero, suc, ◌-◌, ◌≤◌, Bool, true, false, cond, ◌&&◌, eqb, List, [], ◌∷◌, take, is_some, is_ok, Some, None, Ok, Err, Option, Result, sym, refl, ap, ◌∙◌, subst, inl, inr, true≢false, arith}
+use Rattle.std.proofs.Common.{◌≡◌, ℕ, zero, suc, ◌-◌, ◌≤◌, Bool, true, false, cond, ◌&&◌, eqb, List, [], ◌∷◌, take, is_ok, Some, None, Ok, Err, Option, Result, sym, refl, ap, ◌∙◌, subst, inl, inr, arith}
 use Rattle.std.proofs.lemmas.Bool.{and_right, eqb-false}
 use Rattle.frame.specs.declared.faults.Fault.{Fault}
 use Rattle.frame.specs.declared.frames.Wish.{Wish}
@@ -66,7 +66,7 @@ nothing_acknowledged n t = and_right _ _ (ap (λ (x : ℕ). eqb x 1) (zero_bit (
 
 -- what is answered where no superframe may be open
 none_open : {A : Type 0} (b : Bool) (f : Fault) (r : Result A Fault) → is_ok (cond b (Err f) r) ≡ true → b ≡ false
-none_open true f r e = absurd (true≢false (sym e))
+none_open true f r e = absurd cc
 none_open false f r e = refl
 
 first_true : (a b : Bool) → (a && b) ≡ true → a ≡ true
@@ -118,9 +118,9 @@ module _ {C : Type 0} (image : C → List ℕ) (n : Numbers) (e : ℕ) where
         book = s.book;
         agrees = rw down (agrees_still _ _ e (opening xs ∷ ds) ds _ _ _ _ _ (unmoved e ds) s.agrees);
         unheard = λ _ _. unheard;
-        late = λ _ aware. absurd (true≢false (sym aware));
+        late = λ _ aware. absurd cc;
         quiet = s.quiet;
-        due = λ r is _ aware. absurd (true≢false (sym aware));
+        due = λ r is _ aware. absurd cc;
         frames = λ _ x among here now. let before = earlier x among in absurd (omega arith);
       }
 
@@ -136,11 +136,11 @@ module _ {C : Type 0} (image : C → List ℕ) (n : Numbers) (e : ℕ) where
         bound = s.bound;
         book = s.book;
         agrees = agrees_still _ _ e (closing ∷ ds) ds _ _ _ _ _ (unmoved e ds) (rw aware at s.agrees);
-        unheard = λ is. absurd (true≢false (sym is));
-        late = λ is. absurd (true≢false (sym is));
+        unheard = λ is. absurd cc;
+        late = λ is. absurd cc;
         quiet = rw aware at s.quiet;
-        due = λ r due is. absurd (true≢false (sym is));
-        frames = λ is. absurd (true≢false (sym is));
+        due = λ r due is. absurd cc;
+        frames = λ is. absurd cc;
       }
 
   outside_closed : (v : Device C) (ds : List (Deed C)) → Outside e v ds → Outside e v (closing ∷ ds)
@@ -164,15 +164,15 @@ module _ {C : Type 0} (image : C → List ℕ) (m : PlanMeaning) (e : ℕ) where
   begun a w None its = begun_none a w
   begun a w (Some g) its = record {
     address = its g refl;
-    configured = λ c is. absurd (true≢false (sym (ap is_some is)));
+    configured = λ c is. absurd cc;
     bound = λ _. refl;
     book = [];
     agrees = record { accepts = refl; tells = refl; sends = refl; arrives = refl; just = tt; sent_since = refl; waits = refl };
-    unheard = λ is. absurd (true≢false (sym is));
-    late = λ is. absurd (true≢false (sym is));
+    unheard = λ is. absurd cc;
+    late = λ is. absurd cc;
     quiet = λ _. nothing_acknowledged m.numbers g.first;
-    due = λ r due is. absurd (true≢false (sym is));
-    frames = λ is. absurd (true≢false (sym is));
+    due = λ r due is. absurd cc;
+    frames = λ is. absurd cc;
   }
 
   opened_for : (o : Option Grant) (k : Inner) (v : Device C) (ds : List (Deed C)) (xs : List ℕ) → k.opened ≡ false → Steady m k ds → Standing image m.numbers e o k v ds → Standing image m.numbers e o (coordinator.begun k) v (opening xs ∷ ds)
@@ -263,8 +263,8 @@ module _ {C : Type 0} (image : C → List ℕ) (m : PlanMeaning) (e : ℕ) where
 
     opened_as_answered : (q : Result ℕ Fault) (buffer : List ℕ) (r : Result Opened Fault) (memory : List ℕ) → (is_ok q ≡ true → k.opened ≡ false) → r ≡ coordinator.opened_as k.number q → Steady m k ds → Standing image m.numbers e o k v ds → Standing image m.numbers e o (cond (is_ok q) (coordinator.begun k) k) v (deed (opens buffer r memory) ∷ ds)
     opened_as_answered (Ok l) buffer (Ok x) memory shut is steady s = opened_for o k v ds (take x.length memory) (shut refl) steady s
-    opened_as_answered (Ok l) buffer (Err f) memory shut is steady s = absurd (true≢false (sym (ap is_ok is)))
-    opened_as_answered (Err f) buffer (Ok x) memory shut is steady s = absurd (true≢false (ap is_ok is))
+    opened_as_answered (Ok l) buffer (Err f) memory shut is steady s = absurd cc
+    opened_as_answered (Err f) buffer (Ok x) memory shut is steady s = absurd cc
     opened_as_answered (Err f) buffer (Err h) memory shut is steady s = idle s
 
     pub opened_kept : (buffer : List ℕ) (r : Result Opened Fault) (memory : List ℕ) → r ≡ coordinator.open_answer m.numbers k buffer → Steady m k ds → Standing image m.numbers e o k v ds → Standing image m.numbers e o (coordinator.open_state m.numbers k buffer) v (deed (opens buffer r memory) ∷ ds)
@@ -272,8 +272,8 @@ module _ {C : Type 0} (image : C → List ℕ) (m : PlanMeaning) (e : ℕ) where
 
     closed_as_answered : (b : Bool) (j : ℕ) (r : Result (Unit {0}) (Fault × OpenSuperframe)) (f : Fault × OpenSuperframe) → (b ≡ true → k.opened ≡ true) → r ≡ cond b (Ok tt) (Err f) → (deed {C = C} (closes j r) ≡ closing → learned e ds ≡ true) → Standing image m.numbers e o k v ds → Standing image m.numbers e o (cond b (coordinator.ended k) k) v (deed (closes j r) ∷ ds)
     closed_as_answered true j (Ok u) f opened is aware s = closed_for o k v ds (opened refl) (aware refl) s
-    closed_as_answered true j (Err h) f opened is aware s = absurd (true≢false (sym (ap is_ok is)))
-    closed_as_answered false j (Ok u) f opened is aware s = absurd (true≢false (ap is_ok is))
+    closed_as_answered true j (Err h) f opened is aware s = absurd cc
+    closed_as_answered false j (Ok u) f opened is aware s = absurd cc
     closed_as_answered false j (Err h) f opened is aware s = idle s
 
     pub closed_kept : (j : ℕ) (r : Result (Unit {0}) (Fault × OpenSuperframe)) → r ≡ coordinator.close_answer k j → (deed {C = C} (closes j r) ≡ closing → learned e ds ≡ true) → Standing image m.numbers e o k v ds → Standing image m.numbers e o (coordinator.close_state k j) v (deed (closes j r) ∷ ds)

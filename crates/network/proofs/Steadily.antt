@@ -2,7 +2,7 @@
 use Rattle.std.proofs.Common.{◌≡◌, ℕ, zero, suc, ◌+◌, ◌<◌, Bool, true, false, cond, not, ◌&&◌, ◌||◌, eqb, ltb, leb, List, [], ◌∷◌, length, take, drop, is_ok, Some, None, Ok, Err, Option, Result, sym, refl, ap, ◌∙◌, subst, inl, inr, arith}
 use lib.ListN.{length-replicate}
 use Rattle.std.proofs.lemmas.List.{take_at}
-use Rattle.std.proofs.lemmas.Bool.{and_parts, both_ways, cond-false, leb-false, lt-ltb, not-false}
+use Rattle.std.proofs.lemmas.Bool.{and_parts, cond-false, leb-false, lt-ltb, not-false}
 use Rattle.frame.specs.declared.faults.Fault.{Fault}
 use Rattle.frame.specs.declared.faults.Refusal.TheVariants as refusal
 use Rattle.frame.specs.declared.frames.Acknowledged.{Acknowledged}
@@ -101,19 +101,17 @@ module _ (m : PlanMeaning) (rules : Rules m) (i : ℕ) (g : Grant) (xs : List �
 
 -- Hearing.
 
-nonsense : {A B : Type 0} {P : Type 0} (x : A) (y : B) → Err x ≡ Ok y → P
-nonsense x y e = let z : ◌≡◌ {A = ℕ} 0 1 = cc in absurd (omega arith)
 
 module _ (f1 f2 f3 f4 : Fault) (r : Result Grant Fault) (g : Grant) where
   passed : (a b c d : Bool) → cond a (Err f1) (cond b (Err f2) (cond c (Err f3) (cond d (Err f4) r))) ≡ Ok g → (a ≡ false) × (b ≡ false) × (c ≡ false) × (d ≡ false) × (r ≡ Ok g)
-  passed true b c d e = nonsense f1 g e
-  passed false true c d e = nonsense f2 g e
-  passed false false true d e = nonsense f3 g e
-  passed false false false true e = nonsense f4 g e
+  passed true b c d e = absurd cc
+  passed false true c d e = absurd cc
+  passed false false true d e = absurd cc
+  passed false false false true e = absurd cc
   passed false false false false e = (refl, refl, refl, refl, e)
 
 somebody_is : (t : ℕ) (o : Option Grant) (g : Grant) → somebody t o ≡ Ok g → o ≡ Some g
-somebody_is t None g e = nonsense (fault refusal.Nobody t) g e
+somebody_is t None g e = absurd cc
 somebody_is t (Some h) g e = let q : h ≡ g = cc in ap Some q
 
 -- what a grant that is listened to tells
@@ -125,19 +123,19 @@ listened m k j t g e =
 
 module _ {C : Type 0} (image : C → List ℕ) (n : Numbers) (xs : List ℕ) (h : Heard C) where
   small_enough : (b : Bool) (g : Grant) (c : C) → Ok h ≡ cond b (Err (fault refusal.Size 0)) (Ok (record { simple = g.simple; cargo = c })) → (h.simple ≡ g.simple) × (h.cargo ≡ c)
-  small_enough true g c e = nonsense (fault refusal.Size 0) h (sym e)
+  small_enough true g c e = absurd cc
   small_enough false g c e =
       let same : h ≡ record { simple = g.simple; cargo = c } = cc in
       (ap (λ (x : Heard C). x.simple) same, ap (λ (x : Heard C). x.cargo) same)
 
   received_as : (g : Grant) (received : Result C Fault) → Receives image xs received → Ok h ≡ heard_from image n g received → (h.simple ≡ g.simple) × Receives image xs (Ok h.cargo)
-  received_as g (Err f) r e = nonsense f h (sym e)
+  received_as g (Err f) r e = absurd cc
   received_as g (Ok c) r e =
       let p = small_enough (ltb (carried n.size g) (length (image c))) g c e in
       (p.0, subst (λ (x : C). Receives image xs (Ok x)) (sym p.1) r)
 
   heard_as : (l : Result Grant Fault) → HearsFrom image n l xs (Ok h) → (g : Grant) × (l ≡ Ok g) × (h.simple ≡ g.simple) × Receives image xs (Ok h.cargo)
-  heard_as (Err f) e = nonsense f h (sym e)
+  heard_as (Err f) e = absurd cc
   heard_as (Ok g) e = let p = received_as g e.0 e.1 e.2 in (g, refl, p.0, p.1)
 
 module _ {C : Type 0} (image : C → List ℕ) (m : PlanMeaning) (k : Inner) where
@@ -249,7 +247,7 @@ begun_steady C m = record {
   gathered_alike = always_alike m;
   sent_alike = always_alike m;
   announces = refl;
-  counted = λ e. absurd (both_ways false refl e);
+  counted = λ e. absurd cc;
   cleared = λ e. refl;
   answered = λ xs a. absurd a;
   earlier = λ x a. absurd a;
@@ -277,7 +275,7 @@ module _ {C : Type 0} (m : PlanMeaning) (k : Inner) (ds : List (Deed C)) where
 
 -- octets that fit stand at the start of the buffer
 fits_whole : (b : Bool) (xs : List ℕ) (l : ℕ) → cond b (Err (fault refusal.Space 0)) (Ok (length xs)) ≡ Ok l → length xs ≡ l
-fits_whole true xs l e = nonsense (fault refusal.Space 0) l e
+fits_whole true xs l e = absurd cc
 fits_whole false xs l e = cc
 
 pub fitted : (xs buffer memory : List ℕ) (l : ℕ) → fitting xs buffer ≡ Ok l → memory ≡ left_by (Ok l) xs buffer → take l memory ≡ xs
@@ -291,20 +289,20 @@ module _ {C : Type 0} (m : PlanMeaning) (k : Inner) (ds : List (Deed C)) where
     sent_alike = s.sent_alike;
     announces = ap Some e;
     counted = λ q. omega arith;
-    cleared = λ q. absurd (both_ways true q refl);
+    cleared = λ q. absurd cc;
     answered = s.answered;
     earlier = λ x a. let h = s.earlier x a in omega arith;
   }
 
   -- an opening that is not refused has written the beacon
   opening_fits : (b : Bool) (r : Result ℕ Fault) (l : ℕ) → cond b (Err (fault refusal.Superframe 0)) r ≡ Ok l → r ≡ Ok l
-  opening_fits true r l e = nonsense (fault refusal.Superframe 0) l e
+  opening_fits true r l e = absurd cc
   opening_fits false r l e = e
 
   open_so : (buffer : List ℕ) (o : Result ℕ Fault) (r : Result Opened Fault) (memory : List ℕ) → coordinator.opening m.numbers k buffer ≡ o → r ≡ opened_as k.number o → memory ≡ left_by o (beacon_of m.numbers k) buffer → Steady m k ds → Steady m (cond (is_ok o) (begun k) k) (deed (opens buffer r memory) ∷ ds)
   open_so buffer (Err f) (Err g) memory d e h s = idle_steady m k ds s
-  open_so buffer (Err f) (Ok o) memory d e h s = nonsense f o (sym e)
-  open_so buffer (Ok l) (Err f) memory d e h s = nonsense f (record { length = l; superframe = record { number = k.number } }) e
+  open_so buffer (Err f) (Ok o) memory d e h s = absurd cc
+  open_so buffer (Ok l) (Err f) memory d e h s = absurd cc
   open_so buffer (Ok l) (Ok o) memory d e h s =
       let same : o ≡ record { length = l; superframe = record { number = k.number } } = cc in
       let q : o.length ≡ l = ap (λ (x : Opened). x.length) same in
@@ -319,7 +317,7 @@ module _ {C : Type 0} (m : PlanMeaning) (k : Inner) (ds : List (Deed C)) where
     gathered_alike = always_alike m;
     sent_alike = s.gathered_alike;
     announces = refl;
-    counted = λ q. absurd (both_ways false refl q);
+    counted = λ q. absurd cc;
     cleared = λ q. refl;
     answered = s.answered;
     earlier = s.earlier;
@@ -327,8 +325,8 @@ module _ {C : Type 0} (m : PlanMeaning) (k : Inner) (ds : List (Deed C)) where
 
   close_so : (j : ℕ) (b : Bool) (f : Fault × OpenSuperframe) (r : Result (Unit {0}) (Fault × OpenSuperframe)) → r ≡ cond b (Ok tt) (Err f) → Steady m k ds → Steady m (cond b (ended k) k) (deed (closes j r) ∷ ds)
   close_so j true f (Ok u) e s = closed_so s
-  close_so j true f (Err g) e s = nonsense g tt e
-  close_so j false f (Ok u) e s = nonsense f u (sym e)
+  close_so j true f (Err g) e s = absurd cc
+  close_so j false f (Ok u) e s = absurd cc
   close_so j false f (Err g) e s = idle_steady m k ds s
 
   pub close_steady : (j : ℕ) (r : Result (Unit {0}) (Fault × OpenSuperframe)) → r ≡ close_answer k j → Steady m k ds → Steady m (close_state k j) (deed (closes j r) ∷ ds)
@@ -342,15 +340,15 @@ replied (Err f) = []
 
 module _ (m : PlanMeaning) (rules : Rules m) (k : Inner) (x : Managed) where
   thanked_as : (o : Option ℕ) → thanked k o ≡ Ok x → ReplyOf m x.reply
-  thanked_as None e = nonsense (fault refusal.Unwanted 0) x e
+  thanked_as None e = absurd cc
   thanked_as (Some i) e = inl (sym (ap replied e))
 
   discovered_as : (o : Option ℕ) → discovered k o ≡ Ok x → ReplyOf m x.reply
-  discovered_as None e = nonsense (fault refusal.Stranger 0) x e
+  discovered_as None e = absurd cc
   discovered_as (Some i) e = inr (inl (sym (ap replied e)))
 
   handing_as : (a i : ℕ) (o : Option Grant) → grant_at m i ≡ o → number_with m a ≡ Some i → handing m k a i o ≡ Ok x → ReplyOf m x.reply
-  handing_as a i None at named e = nonsense (fault refusal.Stranger 0) x e
+  handing_as a i None at named e = absurd cc
   handing_as a i (Some g) at named e =
       let w = (names_addressed m rules a i).0 named in
       let there : grant_at m i ≡ Some w.0 = w.1 in
@@ -359,38 +357,38 @@ module _ (m : PlanMeaning) (rules : Rules m) (k : Inner) (x : Managed) where
       inr (inr (i, g, at, sym (ap replied e) ∙ ap (λ (b : ℕ). octets_of (command_frame (commands.ConfigurationRequest b (configuration_for m.numbers g)))) (sym address)))
 
   requested_as : (a : ℕ) (o : Option ℕ) → number_with m a ≡ o → requested m k a o ≡ Ok x → ReplyOf m x.reply
-  requested_as a None named e = nonsense (fault refusal.Stranger 0) x e
+  requested_as a None named e = absurd cc
   requested_as a (Some i) named e = handing_as a i (grant_at m i) refl named e
 
   acknowledging_as : (b : Bool) (a : Acknowledged) → acknowledging k b a ≡ Ok x → ReplyOf m x.reply
-  acknowledging_as b acknowledgments.Data e = nonsense (fault refusal.Unwanted 0) x e
-  acknowledging_as b acknowledgments.DiscoverResponse e = nonsense (fault refusal.Unwanted 0) x e
+  acknowledging_as b acknowledgments.Data e = absurd cc
+  acknowledging_as b acknowledgments.DiscoverResponse e = absurd cc
   acknowledging_as true acknowledgments.ConfigurationRequest e = thanked_as k.handed e
-  acknowledging_as false acknowledgments.ConfigurationRequest e = nonsense (fault refusal.Unwanted 0) x e
+  acknowledging_as false acknowledgments.ConfigurationRequest e = absurd cc
 
   commanded_as : (b : Bool) (c : Command) → commanded m k b c ≡ Ok x → ReplyOf m x.reply
-  commanded_as true (commands.DiscoverResponse a w) e = nonsense (fault refusal.Unwanted 0) x e
+  commanded_as true (commands.DiscoverResponse a w) e = absurd cc
   commanded_as false (commands.DiscoverResponse a w) e = discovered_as (number_with m a) e
   commanded_as true (commands.ConfigurationStatus a simple w first width) e = requested_as a (number_with m a) refl e
-  commanded_as false (commands.ConfigurationStatus a simple w first width) e = nonsense (fault refusal.Unwanted 0) x e
-  commanded_as b (commands.ConfigurationRequest a c) e = nonsense (fault refusal.Unwanted 0) x e
+  commanded_as false (commands.ConfigurationStatus a simple w first width) e = absurd cc
+  commanded_as b (commands.ConfigurationRequest a c) e = absurd cc
 
   message_as : (b : Bool) (y : Message) → managed_by m k b y ≡ Ok x → ReplyOf m x.reply
   message_as b (command_frame c) e = commanded_as b c e
   message_as b (acknowledgment_frame a) e = acknowledging_as b a e
-  message_as b (data_frame p) e = nonsense (fault refusal.Unwanted 0) x e
-  message_as b (online_beacon h n bitmap) e = nonsense (fault refusal.Unwanted 0) x e
-  message_as b (discovery_beacon h g) e = nonsense (fault refusal.Unwanted 0) x e
-  message_as b (configuration_beacon h g) e = nonsense (fault refusal.Unwanted 0) x e
-  message_as b (reset_beacon h) e = nonsense (fault refusal.Unwanted 0) x e
+  message_as b (data_frame p) e = absurd cc
+  message_as b (online_beacon h n bitmap) e = absurd cc
+  message_as b (discovery_beacon h g) e = absurd cc
+  message_as b (configuration_beacon h g) e = absurd cc
+  message_as b (reset_beacon h) e = absurd cc
 
   read_as : (t : Result Told Fault) → managed_as m k t ≡ Ok x → ReplyOf m x.reply
   read_as (Ok t) e = message_as (is_configuring (state_of k.mode)) t.message e
-  read_as (Err f) e = nonsense f x e
+  read_as (Err f) e = absurd cc
 
   open_as : (a b : Bool) (t : Result Told Fault) → cond a (Err (fault refusal.Superframe 0)) (cond b (Err (fault refusal.Mode 0)) (managed_as m k t)) ≡ Ok x → ReplyOf m x.reply
-  open_as true b t e = nonsense (fault refusal.Superframe 0) x e
-  open_as false true t e = nonsense (fault refusal.Mode 0) x e
+  open_as true b t e = absurd cc
+  open_as false true t e = absurd cc
   open_as false false t e = read_as t e
 
   pub replies_as : (j : ℕ) (xs : List ℕ) → managing m k j xs ≡ Ok x → ReplyOf m x.reply
@@ -414,8 +412,8 @@ module _ {C : Type 0} (m : PlanMeaning) (rules : Rules m) (k : Inner) (ds : List
 
   replying_so : (j : ℕ) (xs buffer : List ℕ) (x : Managed) (o r : Result ℕ Fault) (memory : List ℕ) → ReplyOf m x.reply → fitting x.reply buffer ≡ o → r ≡ o → memory ≡ left_by o x.reply buffer → Steady m k ds → Steady m (cond (is_ok o) (noted k x) k) (deed (hears_management j xs buffer r memory) ∷ ds)
   replying_so j xs buffer x (Err f) (Err g) memory h d e q s = idle_steady m k ds s
-  replying_so j xs buffer x (Err f) (Ok l) memory h d e q s = nonsense f l (sym e)
-  replying_so j xs buffer x (Ok l) (Err f) memory h d e q s = nonsense f l e
+  replying_so j xs buffer x (Err f) (Ok l) memory h d e q s = absurd cc
+  replying_so j xs buffer x (Ok l) (Err f) memory h d e q s = absurd cc
   replying_so j xs buffer x (Ok l) (Ok n) memory h d e q s =
       let same : n ≡ l = cc in
       let whole : take n memory ≡ x.reply = ap (λ (y : ℕ). take y memory) same ∙ fitted x.reply buffer memory l d q in
@@ -423,7 +421,7 @@ module _ {C : Type 0} (m : PlanMeaning) (rules : Rules m) (k : Inner) (ds : List
 
   manage_so : (j : ℕ) (xs buffer : List ℕ) (o : Result Managed Fault) (r : Result ℕ Fault) (memory : List ℕ) → managing m k j xs ≡ o → r ≡ replying o buffer → memory ≡ reply_memory o buffer → Steady m k ds → Steady m (reply_state k o buffer) (deed (hears_management j xs buffer r memory) ∷ ds)
   manage_so j xs buffer (Err f) (Err g) memory d e q s = idle_steady m k ds s
-  manage_so j xs buffer (Err f) (Ok l) memory d e q s = nonsense f l (sym e)
+  manage_so j xs buffer (Err f) (Ok l) memory d e q s = absurd cc
   manage_so j xs buffer (Ok x) r memory d e q s = replying_so j xs buffer x (fitting x.reply buffer) r memory (replies_as m rules k x j xs d) refl e q s
 
   pub manage_steady : (j : ℕ) (xs buffer : List ℕ) (r : Result ℕ Fault) (memory : List ℕ) → r ≡ manage_answer m k j xs buffer → memory ≡ manage_memory m k j xs buffer → Steady m k ds → Steady m (manage_state m k j xs buffer) (deed (hears_management j xs buffer r memory) ∷ ds)
@@ -432,7 +430,7 @@ module _ {C : Type 0} (m : PlanMeaning) (rules : Rules m) (k : Inner) (ds : List
 -- Hearing a data frame.
 
 granted_at : (m : PlanMeaning) (o : Option ℕ) (g : Grant) → granted m o ≡ Some g → (i : ℕ) × (grant_at m i ≡ Some g)
-granted_at m None g e = let z : ◌≡◌ {A = ℕ} 0 1 = cc in absurd (omega arith)
+granted_at m None g e = absurd cc
 granted_at m (Some i) g e = (i, e)
 
 -- the grant of a sender is one of the plan
@@ -441,7 +439,7 @@ sender_granted m k t g e = granted_at m (sender_at m k.sent t) g e
 
 module _ {C : Type 0} (m : PlanMeaning) (rules : Rules m) (k : Inner) (ds : List (Deed C)) where
   heard_so : (t : ℕ) (xs : List ℕ) (simple : ℕ) (c : C) (o : Option Grant) (g : Grant) → sending m k t ≡ o → o ≡ Some g → k.opened ≡ true → Steady m k ds → Steady m (coordinator.accepted m.numbers k t o) (hand_up t xs simple c ∷ ds)
-  heard_so t xs simple c None g d e opened s = let z : ◌≡◌ {A = ℕ} 0 1 = cc in absurd (omega arith)
+  heard_so t xs simple c None g d e opened s = absurd cc
   heard_so t xs simple c (Some h) g d e opened s =
       let w = sender_granted m k t h d in
       record {
@@ -450,7 +448,7 @@ module _ {C : Type 0} (m : PlanMeaning) (rules : Rules m) (k : Inner) (ds : List
         sent_alike = s.sent_alike;
         announces = s.announces;
         counted = s.counted;
-        cleared = λ q. absurd (both_ways k.opened q opened);
+        cleared = λ q. absurd cc;
         answered = s.answered;
         earlier = s.earlier;
       }

@@ -8,14 +8,6 @@ use cargo::Cargo;
 use coordinator::Coordinator;
 use plan::SlotPlan;
 
-// A coordinator before its first superframe.
-fn fresh<P: SlotPlan>(plan: P) -> Coordinator<P>
-    ensures state { result.inner ≡ made }
-    ensures plan { result.plan ≡ plan }
-{
-    Coordinator::new(plan)
-}
-
 // The coordinator of a network that carries one kind of cargo, in Discovery, before its first superframe.
 // `guarantee` is what holds of every run of such a network, with any devices. `example` is a run that meets its premises.
 pub fn coordinator_for<P: SlotPlan, C: Cargo>(plan: P) -> Coordinator<P>
@@ -24,5 +16,5 @@ pub fn coordinator_for<P: SlotPlan, C: Cargo>(plan: P) -> Coordinator<P>
     ensures guarantee { Guarantee C.image (P.meaning plan) }
     ensures example { Example }
 {
-    fresh(plan)
+    Coordinator::new(plan)
 }

@@ -1,6 +1,6 @@
--- The answer is the number of claims, and all of them hold.
+-- All claims hold.
 use Rattle.known.proofs.Holding.{all_hold}
 use Rattle.known.proofs.known_cases.Goals as goal
 
-pub returns : goal.returns
-returns c = record { count = c.count.ensures; hold = all_hold }
+pub returns-clause-hold : goal.returns-clause-hold
+returns-clause-hold c = all_hold
