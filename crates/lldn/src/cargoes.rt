@@ -1,17 +1,98 @@
-// Commands on cargo: images written, octets and frames read.
+// Cargo of either kind: as a line gives it, as its image, and read back.
+use crate::reply::Reply;
+use crate::stops::{Obstacle, Stop};
+use crate::words::{number, signed};
 use cargo::{Cargo, Panel, Reading, receive};
 use frame::Fault;
 use hexadecimal::Hex;
-use std::io;
-use std::io::{BufWriter, Stdout, Write};
-
-type Out = BufWriter<Stdout>;
+use std::fmt;
+use std::str::FromStr;
 
 // A kind of cargo.
-#[derive(Clone, Copy)]
+#[derive(Clone, Copy, Debug, PartialEq, Eq)]
 pub enum Kind {
     Reading,
     Panel,
+}
+
+impl fmt::Display for Kind {
+    fn fmt<W: fmt::Write>(&self, f: &mut fmt::Formatter<W>) -> fmt::Result {
+        f.write_str(match self {
+            Kind::Reading => "reading",
+            Kind::Panel => "panel",
+        })
+    }
+}
+
+impl FromStr for Kind {
+    type Err = Obstacle;
+
+    fn from_str(word: &str) -> Result<Kind, Obstacle> {
+        match word {
+            "reading" => Ok(Kind::Reading),
+            "panel" => Ok(Kind::Panel),
+            _ => Err(Obstacle::NotUnderstood),
+        }
+    }
+}
+
+// Cargo that a line gives, or none where its values are no cargo of the kind.
+#[derive(Clone, Copy)]
+pub enum Offer {
+    Reading(Option<Reading>),
+    Panel(Option<Panel>),
+}
+
+impl Offer {
+    pub fn kind(self) -> Kind {
+        match self {
+            Offer::Reading(_) => Kind::Reading,
+            Offer::Panel(_) => Kind::Panel,
+        }
+    }
+
+    // A reading by the words of its value and its quality.
+    pub fn reading(value: &str, quality: &str) -> Option<Offer> {
+        let reading = Reading::new(signed(value)?, number(quality)?);
+        Some(Offer::Reading(reading))
+    }
+
+    // The panel that a word of 0s and 1s switches.
+    pub fn panel(word: &str) -> Option<Offer> {
+        if !word.bytes().all(|byte| matches!(byte, b'0' | b'1')) {
+            return None;
+        }
+        let mut inputs = [false; 64];
+        for (input, byte) in inputs.iter_mut().zip(word.bytes()) {
+            *input = byte == b'1';
+        }
+        let inputs = inputs.get(..word.len());
+        Some(Offer::Panel(inputs.and_then(Panel::new)))
+    }
+}
+
+// Cargo that a network of the console carries.
+pub trait Carried: Cargo + fmt::Display + Drop {
+    // The cargo that a line gives.
+    fn of(offer: Offer) -> Result<Self, Obstacle>;
+}
+
+impl Carried for Reading {
+    fn of(offer: Offer) -> Result<Reading, Obstacle> {
+        match offer {
+            Offer::Reading(reading) => reading.ok_or(Obstacle::NoCargo(Kind::Reading)),
+            Offer::Panel(_) => Err(Obstacle::NotUnderstood),
+        }
+    }
+}
+
+impl Carried for Panel {
+    fn of(offer: Offer) -> Result<Panel, Obstacle> {
+        match offer {
+            Offer::Reading(_) => Err(Obstacle::NotUnderstood),
+            Offer::Panel(panel) => panel.ok_or(Obstacle::NoCargo(Kind::Panel)),
+        }
+    }
 }
 
 // What octets are read as.
@@ -23,112 +104,33 @@ pub enum Source {
     Frame,
 }
 
-// The image of a reading.
-pub fn image_of_reading(number: u64, value: i32, quality: u8, out: &mut Out) -> io::Result<()> {
-    match Reading::new(value, quality) {
-        Some(reading) => image(number, &reading, out),
-        None => writeln!(out, "{number}: no such reading"),
+impl Source {
+    fn read<C: Cargo>(self, octets: &[u8]) -> Result<C, Fault> {
+        match self {
+            Source::Image => C::read(octets),
+            Source::Frame => receive(octets),
+        }
     }
 }
 
-// Inputs of a panel that were asked for: how many, and which of the first 64 are on.
-#[derive(Clone, Copy)]
-pub struct Inputs {
-    pub switches: [bool; 64],
-    pub count: usize,
-}
-
-// The image of a panel.
-pub fn image_of_panel(number: u64, inputs: Inputs, out: &mut Out) -> io::Result<()> {
-    match panel_of(inputs) {
-        Some(panel) => image(number, &panel, out),
-        None => writeln!(out, "{number}: no such panel"),
+// Answers the image of the cargo that a line gives.
+pub fn image(offer: Offer, reply: &mut Reply<'_>) -> Result<(), Stop> {
+    match offer.kind() {
+        Kind::Reading => image_of(&Reading::of(offer)?, reply),
+        Kind::Panel => image_of(&Panel::of(offer)?, reply),
     }
 }
 
-// The panel with these inputs, or none where they are too many.
-pub fn panel_of(inputs: Inputs) -> Option<Panel> {
-    if inputs.count > 64 {
-        return None;
-    }
-    Panel::new(first(&inputs.switches, inputs.count))
-}
-
-// The first items of a slice, or all of them.
-pub fn first<T>(items: &[T], count: usize) -> &[T] {
-    if count <= items.len() {
-        &items[0..count]
-    } else {
-        items
-    }
-}
-
-fn image<C: Cargo>(number: u64, cargo: &C, out: &mut Out) -> io::Result<()> {
-    let mut buffer = [0u8; 124];
-    match cargo.write(&mut buffer) {
-        Ok(length) => writeln!(out, "{number}: image {}", Hex(first(&buffer, length))),
-        Err(fault) => refused(number, fault, out),
-    }
+fn image_of<C: Cargo>(cargo: &C, reply: &mut Reply<'_>) -> Result<(), Stop> {
+    let mut buffer = [0; 124];
+    let length = cargo.write(&mut buffer)?;
+    reply.line(format_args!("image {}", Hex(&buffer[..length])))
 }
 
 // Reads octets as cargo of a kind.
-pub fn read(
-    number: u64,
-    kind: Kind,
-    source: Source,
-    octets: &[u8],
-    out: &mut Out,
-) -> io::Result<()> {
+pub fn read(kind: Kind, source: Source, octets: &[u8], reply: &mut Reply<'_>) -> Result<(), Stop> {
     match kind {
-        Kind::Reading => reading(number, taken::<Reading>(source, octets), out),
-        Kind::Panel => panel(number, taken::<Panel>(source, octets), out),
+        Kind::Reading => reply.line(source.read::<Reading>(octets)?),
+        Kind::Panel => reply.line(source.read::<Panel>(octets)?),
     }
-}
-
-fn taken<C: Cargo>(source: Source, octets: &[u8]) -> Result<C, Fault> {
-    match source {
-        Source::Image => C::read(octets),
-        Source::Frame => receive(octets),
-    }
-}
-
-fn reading(number: u64, answer: Result<Reading, Fault>, out: &mut Out) -> io::Result<()> {
-    match answer {
-        Ok(reading) => {
-            write!(out, "{number}: ")?;
-            write_reading(&reading, out)
-        }
-        Err(fault) => refused(number, fault, out),
-    }
-}
-
-// Writes a reading, up to the end of the line.
-pub fn write_reading(reading: &Reading, out: &mut Out) -> io::Result<()> {
-    let value = reading.value();
-    let quality = reading.quality();
-    writeln!(out, "reading {value} {quality}")
-}
-
-fn panel(number: u64, answer: Result<Panel, Fault>, out: &mut Out) -> io::Result<()> {
-    match answer {
-        Ok(panel) => {
-            write!(out, "{number}: ")?;
-            write_panel(&panel, out)
-        }
-        Err(fault) => refused(number, fault, out),
-    }
-}
-
-// Writes a panel, up to the end of the line.
-pub fn write_panel(panel: &Panel, out: &mut Out) -> io::Result<()> {
-    write!(out, "panel ")?;
-    for k in 0..panel.count() {
-        let input = panel.input(k) == Some(true);
-        write!(out, "{}", input as u8)?;
-    }
-    writeln!(out, "")
-}
-
-fn refused(number: u64, fault: Fault, out: &mut Out) -> io::Result<()> {
-    writeln!(out, "{number}: refused {fault}")
 }

@@ -1,19 +1,16 @@
 // A whole run of a network that carries readings, over a radio that loses frames.
-use crate::cargoes::first;
 use crate::host::Host;
-use crate::performers::Performer;
-use crate::plans::{AnyPlan, grants_of};
+use crate::performers::{Performer, first};
+use crate::plans::AnyPlan;
 use crate::radio::Radio;
+use crate::reply::Reply;
+use crate::stops::Stop;
 use cargo::Reading;
 use coordinator::Mode;
 use frame::Fault;
-use plan::SlotPlan;
-use std::alloc::{AllocError, Global};
-use std::io;
-use std::io::{BufWriter, Stdout, Write};
+use plan::{Grants, SlotPlan};
+use std::alloc::Global;
 use times::{superframe_symbols, to_microseconds};
-
-type Out = BufWriter<Stdout>;
 
 // How a whole network is run.
 #[derive(Clone, Copy)]
@@ -27,129 +24,119 @@ pub struct Run {
 }
 
 // Runs a network over a plan, with a device for each grant, and tells what came of it.
-pub fn hall(number: u64, heap: Global, plan: AnyPlan, run: Run, out: &mut Out) -> io::Result<()> {
-    let numbers = plan.numbers();
+pub fn tell_hall(heap: Global, plan: AnyPlan, run: Run, reply: &mut Reply<'_>) -> Result<(), Stop> {
     let superframe = to_microseconds(superframe_symbols(&plan));
-    let mut performers = performers_of(&plan, heap)?;
-    let mut host = Host::new::<Reading>(plan);
-    let result = play(&mut host, &mut performers, run, numbers.timeslots);
-    host.finish();
-    match result {
-        Ok(()) => tell(number, &performers, run.superframes, superframe, out),
-        Err(fault) => writeln!(out, "{number}: refused {fault}"),
-    }
-}
-
-// A device for each grant.
-fn performers_of(plan: &AnyPlan, heap: Global) -> Result<Vec<Performer>, AllocError> {
-    let numbers = plan.numbers();
-    let mut performers = Vec::new(heap);
-    for grant in grants_of(plan, heap)?.iter() {
-        performers.push(Performer::new(numbers, *grant))?;
-    }
-    Ok(performers)
-}
-
-// Discovery, configuration, and then the Online superframes.
-fn play(
-    host: &mut Host,
-    performers: &mut Vec<Performer>,
-    run: Run,
-    timeslots: u8,
-) -> Result<(), Fault> {
-    discover(host, performers)?;
-    host.set_mode(Mode::Configuration)?;
-    configure(host, performers)?;
-    host.set_mode(Mode::Online)?;
-    let mut radio = Radio::new(run.loss, run.seed);
-    for _ in 0..run.superframes {
-        superframe(host, performers, &mut radio, timeslots)?;
-    }
-    Ok(())
-}
-
-// A superframe in which every device answers a discovery.
-fn discover(host: &mut Host, performers: &mut Vec<Performer>) -> Result<(), Fault> {
-    let mut beacon = [0; 127];
-    let begun = host.open(&mut beacon)?;
-    for performer in performers.iter_mut() {
-        performer.take_beacon(first(&beacon, begun.length))?;
-        performer.ask(host)?;
-    }
-    let _ = host.close();
-    Ok(())
-}
-
-// A superframe in which every device gets its grant, and acknowledges it.
-fn configure(host: &mut Host, performers: &mut Vec<Performer>) -> Result<(), Fault> {
-    let mut beacon = [0; 127];
-    let begun = host.open(&mut beacon)?;
-    for performer in performers.iter_mut() {
-        performer.take_beacon(first(&beacon, begun.length))?;
-        performer.ask(host)?;
-        performer.thank(host)?;
-    }
-    let _ = host.close();
-    Ok(())
-}
-
-// An Online superframe.
-fn superframe(
-    host: &mut Host,
-    performers: &mut Vec<Performer>,
-    radio: &mut Radio,
-    timeslots: u8,
-) -> Result<(), Fault> {
-    let mut beacon = [0; 127];
-    let begun = host.open(&mut beacon)?;
-    begin(performers, radio, first(&beacon, begun.length))?;
-    for before in 0..timeslots {
-        timeslot(host, performers, radio, before + 1)?;
-    }
-    let _ = host.close();
-    Ok(())
-}
-
-// Each device gets the beacon or misses it, and is offered a reading.
-fn begin(performers: &mut Vec<Performer>, radio: &mut Radio, beacon: &[u8]) -> Result<(), Fault> {
-    for performer in performers.iter_mut() {
-        if radio.loses() {
-            performer.miss_beacon();
-        } else {
-            performer.take_beacon(beacon)?;
-        }
-        performer.offer();
-    }
-    Ok(())
-}
-
-// Each device may send in a timeslot.
-fn timeslot(
-    host: &mut Host,
-    performers: &mut Vec<Performer>,
-    radio: &mut Radio,
-    t: u8,
-) -> Result<(), Fault> {
-    for performer in performers.iter_mut() {
-        performer.send(host, radio, t)?;
-    }
-    Ok(())
-}
-
-// Tells what came of each device's readings, and how long the superframes took.
-fn tell(
-    number: u64,
-    performers: &Vec<Performer>,
-    superframes: u32,
-    superframe: u64,
-    out: &mut Out,
-) -> io::Result<()> {
+    let mut hall = Hall::new(heap, plan, run)?;
+    let played = hall.play(run.superframes);
+    let performers = hall.finish();
+    played?;
     for performer in performers.iter() {
-        performer.tell(number, out)?;
+        performer.tell(reply)?;
     }
-    let microseconds = superframe.saturating_mul(superframes as u64);
-    writeln!(
-        out,
-        "{number}: superframes {superframes} microseconds {microseconds}"
-    )
+    let superframes = run.superframes;
+    let microseconds = superframe.saturating_mul(u64::from(superframes));
+    reply.line(format_args!(
+        "superframes {superframes} microseconds {microseconds}"
+    ))
+}
+
+// A coordinator, its devices, and the radio between them. It has to be finished, for its coordinator.
+struct Hall {
+    host: Host,
+    performers: Vec<Performer>,
+    radio: Radio,
+    timeslots: u8,
+}
+
+impl Hall {
+    // A coordinator over a plan, and a device for each grant.
+    fn new(heap: Global, plan: AnyPlan, run: Run) -> Result<Hall, Stop> {
+        let numbers = plan.numbers();
+        let performers = Grants::of(&plan)
+            .map(|(_, grant)| Performer::new(numbers, grant))
+            .collect(heap)?;
+        Ok(Hall {
+            host: Host::new::<Reading>(plan),
+            performers,
+            radio: Radio::new(run.loss, run.seed),
+            timeslots: numbers.timeslots,
+        })
+    }
+
+    // Lets the coordinator go.
+    fn finish(self) -> Vec<Performer> {
+        let Hall {
+            host,
+            performers,
+            radio: _,
+            timeslots: _,
+        } = self;
+        host.finish();
+        performers
+    }
+
+    // Discovery, configuration, and then the Online superframes.
+    fn play(&mut self, superframes: u32) -> Result<(), Fault> {
+        self.meet(|performer, host| performer.ask(host))?;
+        self.host.set_mode(Mode::Configuration)?;
+        self.meet(|performer, host| {
+            performer.ask(host)?;
+            performer.thank(host)
+        })?;
+        self.host.set_mode(Mode::Online)?;
+        for _ in 0..superframes {
+            self.superframe()?;
+        }
+        Ok(())
+    }
+
+    // A superframe in which every device takes the beacon and exchanges management frames.
+    fn meet<F: Fn(&mut Performer, &mut Host) -> Result<(), Fault>>(
+        &mut self,
+        exchange: F,
+    ) -> Result<(), Fault>
+        requires { F.IsAlwaysCallable exchange }
+    {
+        let mut beacon = [0; 127];
+        let begun = self.host.open(&mut beacon)?;
+        for performer in self.performers.iter_mut() {
+            performer.take_beacon(first(&beacon, begun.length))?;
+            exchange(performer, &mut self.host)?;
+        }
+        let _ = self.host.close();
+        Ok(())
+    }
+
+    // An Online superframe.
+    fn superframe(&mut self) -> Result<(), Fault> {
+        let mut beacon = [0; 127];
+        let begun = self.host.open(&mut beacon)?;
+        self.begin(first(&beacon, begun.length))?;
+        for t in 1..=self.timeslots {
+            self.timeslot(t)?;
+        }
+        let _ = self.host.close();
+        Ok(())
+    }
+
+    // Each device gets the beacon or misses it, and is offered a reading.
+    fn begin(&mut self, beacon: &[u8]) -> Result<(), Fault> {
+        for performer in self.performers.iter_mut() {
+            if self.radio.loses() {
+                performer.miss_beacon();
+            } else {
+                performer.take_beacon(beacon)?;
+            }
+            performer.offer();
+        }
+        Ok(())
+    }
+
+    // Each device may send in a timeslot.
+    fn timeslot(&mut self, t: u8) -> Result<(), Fault> {
+        for performer in self.performers.iter_mut() {
+            performer.send(&mut self.host, &mut self.radio, t)?;
+        }
+        Ok(())
+    }
 }

@@ -7,7 +7,6 @@ use cargo::Cargo;
 use coordinator::{Coordinator, Heard, Mode, OpenSuperframe, Opened, Record};
 use frame::{Fault, Refusal};
 use network::coordinator_for;
-use std::mem;
 
 // A coordinator that keeps the superframe that it has open. It has to be finished, since an open superframe cannot be let go.
 pub struct Host {
@@ -53,7 +52,7 @@ impl Host {
     pub fn open(&mut self, buffer: &mut [u8]) -> Result<Begun, Fault> {
         let Opened { length, superframe } = self.coordinator.open(buffer)?;
         let number = superframe.number();
-        match mem::replace(&mut self.held, Some(superframe)) {
+        match self.held.replace(superframe) {
             None => Ok(Begun { number, length }),
             Some(_) => unreachable(),
         }
@@ -65,23 +64,19 @@ impl Host {
         timeslot: u8,
         octets: &[u8],
     ) -> Result<Heard<C>, Fault> {
-        match &self.held {
-            Some(superframe) => self.coordinator.hear(superframe, timeslot, octets),
-            None => Err(Refusal::Superframe.at(0)),
-        }
+        let superframe = self.held.as_ref().ok_or(Refusal::Superframe.at(0))?;
+        self.coordinator.hear(superframe, timeslot, octets)
     }
 
     // Hears a management frame in the open superframe.
     pub fn hear_management(&mut self, octets: &[u8], buffer: &mut [u8]) -> Result<usize, Fault> {
-        match &self.held {
-            Some(superframe) => self.coordinator.hear_management(superframe, octets, buffer),
-            None => Err(Refusal::Superframe.at(0)),
-        }
+        let superframe = self.held.as_ref().ok_or(Refusal::Superframe.at(0))?;
+        self.coordinator.hear_management(superframe, octets, buffer)
     }
 
     // Closes the open superframe and tells its number, or none where none is open.
     pub fn close(&mut self) -> Option<u32> {
-        let superframe = mem::replace(&mut self.held, None)?;
+        let superframe = self.held.take()?;
         let number = superframe.number();
         match self.coordinator.close(superframe) {
             Ok(()) => Some(number),
@@ -95,12 +90,11 @@ impl Host {
             mut coordinator,
             held,
         } = self;
-        match held {
-            Some(superframe) => match coordinator.close(superframe) {
+        if let Some(superframe) = held {
+            match coordinator.close(superframe) {
                 Ok(()) => {}
                 Err(_) => unreachable(),
-            },
-            None => {}
+            }
         }
     }
 }

@@ -12,6 +12,7 @@ mod performers;
 mod plans;
 mod radio;
 mod repeating;
+mod reply;
 mod requests;
 mod script_network;
 mod stations;
@@ -21,13 +22,12 @@ mod timetables;
 mod words;
 
 use console::Console;
+use reply::{Out, Reply};
 use std::alloc::Global;
 use std::io;
-use std::io::{BufRead, BufReader, BufWriter, Stdin, Stdout, Write};
+use std::io::{BufRead, BufReader, BufWriter, Stdin, Write};
 
 type In = BufReader<Stdin>;
-
-type Out = BufWriter<Stdout>;
 
 fn main(rt: HostRuntime) -> io::Result<()> {
     let heap = rt.alloc();
@@ -40,7 +40,7 @@ fn main(rt: HostRuntime) -> io::Result<()> {
     out.flush()
 }
 
-// Runs each line of the input.
+// Runs each line of the input. Lines are read into one buffer, as they need not be text and may be long.
 fn serve(console: &mut Console, heap: Global, input: &mut In, out: &mut Out) -> io::Result<()> {
     let mut line = Vec::new(heap);
     for number in 1..u64::MAX {
@@ -48,7 +48,7 @@ fn serve(console: &mut Console, heap: Global, input: &mut In, out: &mut Out) -> 
         if input.read_until(b'\n', &mut line)? == 0 {
             break;
         }
-        console.run(number, &line, out)?;
+        console.run(&line, &mut Reply::to(number, out))?;
     }
     Ok(())
 }

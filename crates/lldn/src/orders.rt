@@ -1,7 +1,7 @@
 // Orders to a network, and the words that they are made of.
-use crate::cargoes::{Inputs, Kind};
+use crate::cargoes::{Kind, Offer};
 use crate::octets::Octets;
-use crate::words::{Words, digits, inputs, named, octets_in, signed, small};
+use crate::words::{Words, named, number};
 use coordinator::Mode;
 use frame::{Direction, Wish};
 
@@ -13,16 +13,6 @@ const SPACE: usize = 127;
 pub enum Order<'a> {
     // To the coordinator, or about all devices.
     Host(HostOrder<'a>),
-    // The coordinator hears a data frame at a timeslot.
-    Hear {
-        timeslot: u8,
-        frame: FrameWord<'a>,
-    },
-    // The device that has a name is handed cargo.
-    Offer {
-        name: &'a str,
-        offer: Offer,
-    },
     // To the device that has a name.
     Device {
         name: &'a str,
@@ -34,7 +24,10 @@ impl Order<'_> {
     // Whether a network that carries a kind of cargo understands it.
     pub fn suits(&self, kind: Kind) -> bool {
         match self {
-            Order::Offer { offer, .. } => offer.is(kind),
+            Order::Device {
+                order: DeviceOrder::Offer(offer),
+                ..
+            } => offer.kind() == kind,
             _ => true,
         }
     }
@@ -52,11 +45,10 @@ pub enum HostOrder<'a> {
     Mode(Mode),
     // Opens a superframe, with a lent buffer of this length.
     Open(usize),
+    // Hears a data frame at a timeslot.
+    Hear { timeslot: u8, frame: FrameWord<'a> },
     // Hears a management frame, with a lent buffer of this length.
-    HearManagement {
-        frame: FrameWord<'a>,
-        space: usize,
-    },
+    HearManagement { frame: FrameWord<'a>, space: usize },
     // Closes the open superframe.
     Close,
     // Tells how far the device of a grant has come.
@@ -71,6 +63,8 @@ pub enum DeviceOrder<'a> {
     Beacon(FrameWord<'a>),
     // Misses a beacon.
     Missed,
+    // Is handed cargo.
+    Offer(Offer),
     // Sends in a timeslot, with a lent buffer of this length.
     Send { timeslot: u8, space: usize },
     // Writes a management frame, with a lent buffer of this length.
@@ -79,24 +73,6 @@ pub enum DeviceOrder<'a> {
     Take(FrameWord<'a>),
     // Tells how far it has come.
     Phase,
-}
-
-// Cargo that is offered.
-#[derive(Clone, Copy)]
-pub enum Offer {
-    Reading { value: i32, quality: u8 },
-    Panel(Inputs),
-}
-
-impl Offer {
-    // Whether the cargo is of a kind.
-    pub fn is(&self, kind: Kind) -> bool {
-        match (self, kind) {
-            (Offer::Reading { .. }, Kind::Reading) => true,
-            (Offer::Panel(_), Kind::Panel) => true,
-            _ => false,
-        }
-    }
 }
 
 // What stands for a frame.
@@ -115,36 +91,26 @@ pub enum FrameWord<'a> {
 // An order and the words that it takes.
 pub fn order_in<'a>(words: &mut Words<'a>, command: &str) -> Option<Order<'a>> {
     match command {
-        "hear" => Some(Order::Hear {
-            timeslot: words.small()?,
-            frame: frame(words)?,
-        }),
-        "offer" => Some(Order::Offer {
-            name: words.name()?,
-            offer: offered(words)?,
-        }),
-        "beacon" | "missed" | "send" | "write" | "take" | "phase" => {
-            let name = words.name()?;
-            let order = device_order(words, command)?;
-            Some(Order::Device { name, order })
-        }
+        "beacon" => Some(to(words.name()?, DeviceOrder::Beacon(frame(words)?))),
+        "missed" => Some(to(words.name()?, DeviceOrder::Missed)),
+        "offer" => Some(to(words.name()?, DeviceOrder::Offer(offer(words)?))),
+        "send" => Some(to(words.name()?, send(words)?)),
+        "write" => Some(to(words.name()?, DeviceOrder::Write(space(words)?))),
+        "take" => Some(to(words.name()?, DeviceOrder::Take(frame(words)?))),
+        "phase" => Some(to(words.name()?, DeviceOrder::Phase)),
         _ => Some(Order::Host(host_order(words, command)?)),
     }
 }
 
-fn device_order<'a>(words: &mut Words<'a>, command: &str) -> Option<DeviceOrder<'a>> {
-    match command {
-        "beacon" => Some(DeviceOrder::Beacon(frame(words)?)),
-        "missed" => Some(DeviceOrder::Missed),
-        "send" => Some(DeviceOrder::Send {
-            timeslot: words.small()?,
-            space: space(words)?,
-        }),
-        "write" => Some(DeviceOrder::Write(space(words)?)),
-        "take" => Some(DeviceOrder::Take(frame(words)?)),
-        "phase" => Some(DeviceOrder::Phase),
-        _ => None,
-    }
+fn to<'a>(name: &'a str, order: DeviceOrder<'a>) -> Order<'a> {
+    Order::Device { name, order }
+}
+
+fn send<'a>(words: &mut Words<'a>) -> Option<DeviceOrder<'a>> {
+    Some(DeviceOrder::Send {
+        timeslot: words.number()?,
+        space: space(words)?,
+    })
 }
 
 fn host_order<'a>(words: &mut Words<'a>, command: &str) -> Option<HostOrder<'a>> {
@@ -154,14 +120,18 @@ fn host_order<'a>(words: &mut Words<'a>, command: &str) -> Option<HostOrder<'a>>
             address: words.address()?,
             wish: wish(words)?,
         }),
-        "mode" => Some(HostOrder::Mode(mode(words.word()?)?)),
+        "mode" => Some(HostOrder::Mode(mode(words.next()?)?)),
         "open" => Some(HostOrder::Open(space(words)?)),
+        "hear" => Some(HostOrder::Hear {
+            timeslot: words.number()?,
+            frame: frame(words)?,
+        }),
         "hear-management" => Some(HostOrder::HearManagement {
             frame: frame(words)?,
             space: space(words)?,
         }),
         "close" => Some(HostOrder::Close),
-        "record" => Some(HostOrder::Record(words.count()?)),
+        "record" => Some(HostOrder::Record(words.number()?)),
         "summary" => Some(HostOrder::Summary),
         _ => None,
     }
@@ -169,35 +139,39 @@ fn host_order<'a>(words: &mut Words<'a>, command: &str) -> Option<HostOrder<'a>>
 
 // The length of a lent buffer, at most 65535; 127 where none is given.
 fn space(words: &mut Words<'_>) -> Option<usize> {
-    let Some(word) = words.word() else {
+    let Some(word) = words.next() else {
         return Some(SPACE);
     };
-    let length = digits(word.strip_prefix("space=")?)?.parse::<u16>().ok()?;
-    Some(length as usize)
+    let length: u16 = number(word.strip_prefix("space=")?)?;
+    Some(usize::from(length))
 }
 
 // A frame: octets in one word, or whose last frame it is.
 fn frame<'a>(words: &mut Words<'a>) -> Option<FrameWord<'a>> {
-    let word = words.word()?;
-    let Some(writer) = word.strip_prefix("@") else {
-        return Some(FrameWord::Octets(octets_in(word)?));
-    };
-    match writer {
-        "open" => Some(FrameWord::Beacon),
-        "coordinator" => Some(FrameWord::Reply),
-        name => Some(FrameWord::Device(named(name)?)),
+    let word = words.next()?;
+    match word.strip_prefix('@') {
+        None => Some(FrameWord::Octets(Words::of(word).octets()?)),
+        Some("open") => Some(FrameWord::Beacon),
+        Some("coordinator") => Some(FrameWord::Reply),
+        Some(name) => Some(FrameWord::Device(named(name)?)),
     }
 }
 
 // What a device asks for.
 fn wish(words: &mut Words<'_>) -> Option<Wish> {
-    let width = words.small()?;
-    let direction = match words.word()? {
-        "uplink" => Direction::Uplink,
-        "bidirectional" => Direction::Bidirectional,
-        _ => return None,
-    };
-    Some(Wish { width, direction })
+    Some(Wish {
+        width: words.number()?,
+        direction: direction(words.next()?)?,
+    })
+}
+
+// A direction or a mode, by a match: both types are of other crates, which cannot be read from words here.
+fn direction(word: &str) -> Option<Direction> {
+    match word {
+        "uplink" => Some(Direction::Uplink),
+        "bidirectional" => Some(Direction::Bidirectional),
+        _ => None,
+    }
 }
 
 fn mode(word: &str) -> Option<Mode> {
@@ -211,13 +185,10 @@ fn mode(word: &str) -> Option<Mode> {
 }
 
 // Cargo: value and quality of a reading, or the inputs of a panel.
-fn offered(words: &mut Words<'_>) -> Option<Offer> {
-    let first = words.word()?;
-    match words.word() {
-        Some(second) => Some(Offer::Reading {
-            value: signed(first)?,
-            quality: small(second)?,
-        }),
-        None => Some(Offer::Panel(inputs(first)?)),
+fn offer(words: &mut Words<'_>) -> Option<Offer> {
+    let first = words.next()?;
+    match words.next() {
+        Some(quality) => Offer::reading(first, quality),
+        None => Offer::panel(first),
     }
 }

@@ -1,17 +1,14 @@
 // A device of a whole run.
-use crate::cargoes::first;
 use crate::host::Host;
 use crate::radio::Radio;
+use crate::reply::Reply;
+use crate::stops::Stop;
 use crate::tallies::Tally;
 use cargo::Reading;
 use coordinator::Heard;
 use device::Device;
 use frame::{Fault, Wish};
 use plan::{Grant, Numbers};
-use std::io;
-use std::io::{BufWriter, Stdout, Write};
-
-type Out = BufWriter<Stdout>;
 
 // A device, and what came of its readings.
 #[derive(Drop)]
@@ -32,7 +29,7 @@ impl Performer {
         Performer {
             simple: grant.simple,
             device: Device::new(grant.address, wish),
-            tally: Tally::new(),
+            tally: Tally::default(),
             handed_up: 0,
         }
     }
@@ -50,31 +47,31 @@ impl Performer {
 
     // Writes a management frame, and takes the coordinator's reply.
     pub fn ask(&mut self, host: &mut Host) -> Result<(), Fault> {
-        let mut frame = [0; 127];
         let mut reply = [0; 127];
-        let written = self.device.write_management(&mut frame)?;
-        let length = host.hear_management(first(&frame, written), &mut reply)?;
+        let length = self.write_management(host, &mut reply)?;
         self.device.take(first(&reply, length))
     }
 
     // Acknowledges its grant.
     pub fn thank(&mut self, host: &mut Host) -> Result<(), Fault> {
-        let mut frame = [0; 127];
-        let mut reply = [0; 127];
-        let written = self.device.write_management(&mut frame)?;
-        let _ = host.hear_management(first(&frame, written), &mut reply)?;
+        self.write_management(host, &mut [0; 127])?;
         Ok(())
+    }
+
+    // Writes a management frame, which the coordinator hears, and answers how long the reply is.
+    fn write_management(&mut self, host: &mut Host, reply: &mut [u8]) -> Result<usize, Fault> {
+        let mut frame = [0; 127];
+        let written = self.device.write_management(&mut frame)?;
+        host.hear_management(first(&frame, written), reply)
     }
 
     // Is offered a reading, if none waits: how many were accepted before, with quality 0.
     pub fn offer(&mut self) {
-        let Ok(value) = i32::try_from(self.tally.accepted) else {
-            return;
-        };
-        let Some(reading) = Reading::new(value, 0) else {
-            return;
-        };
-        if !self.device.is_waiting() && self.device.offer(reading).is_ok() {
+        let value = i32::try_from(self.tally.accepted).ok();
+        if let Some(reading) = value.and_then(|value| Reading::new(value, 0))
+            && !self.device.is_waiting()
+            && self.device.offer(reading).is_ok()
+        {
             self.tally.accept();
         }
     }
@@ -86,27 +83,27 @@ impl Performer {
         if length == 0 || radio.loses() {
             return Ok(());
         }
-        let heard = host.hear(t, first(&frame, length))?;
-        self.credit(heard);
-        Ok(())
-    }
-
-    // Counts a reading of its own, if it was handed up under its simple address.
-    fn credit(&mut self, heard: Heard<Reading>) {
-        let Heard { simple, cargo: _ } = heard;
+        let Heard { simple, cargo: _ } = host.hear::<Reading>(t, first(&frame, length))?;
         if simple == self.simple {
             self.handed_up = self.handed_up.saturating_add(1);
         }
+        Ok(())
     }
 
     // Tells what came of its readings.
-    pub fn tell(&self, number: u64, out: &mut Out) -> io::Result<()> {
+    pub fn tell(&self, reply: &mut Reply<'_>) -> Result<(), Stop> {
         let simple = self.simple;
         let tally = self.tally;
-        let sent = self.device.has_sent() as u8;
-        let waiting = self.device.is_waiting() as u8;
+        let sent = u8::from(self.device.has_sent());
+        let waiting = u8::from(self.device.is_waiting());
         let handed_up = self.handed_up;
-        write!(out, "{number}: station {simple} {tally} ")?;
-        writeln!(out, "sent {sent} waiting {waiting} handed-up {handed_up}")
+        reply.line(format_args!(
+            "station {simple} {tally} sent {sent} waiting {waiting} handed-up {handed_up}"
+        ))
     }
+}
+
+// The octets that a call wrote into a buffer, which has room for the longest frame: a Vec for each of a hall's frames is slower.
+pub fn first(octets: &[u8], count: usize) -> &[u8] {
+    octets.get(..count).unwrap_or(octets)
 }

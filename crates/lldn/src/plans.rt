@@ -5,9 +5,9 @@ ghost use Rattle.plan.specs.Judged.{lawful};
 ghost use Rattle.plan.specs.EvenPlans.{even_meaning};
 ghost use Rattle.plan.specs.ListedPlans.{listed_meaning};
 
-use frame::Fault;
-use plan::{EvenPlan, Grant, ListedPlan, Numbers, SlotPlan};
-use std::alloc::{AllocError, Global};
+use crate::stops::Stop;
+use plan::{EvenPlan, Grant, Grants, ListedPlan, Numbers, SlotPlan};
+use std::alloc::Global;
 
 // The plan that was accepted last.
 #[derive(Drop)]
@@ -18,32 +18,23 @@ pub enum AnyPlan {
 
 impl AnyPlan {
     // The same plan once more, for a network of its own.
-    pub fn again(&self, heap: Global) -> Result<Result<AnyPlan, Fault>, AllocError> {
+    pub fn again(&self, heap: Global) -> Result<AnyPlan, Stop> {
         match self {
-            AnyPlan::Even(plan) => Ok(Ok(AnyPlan::Even(*plan))),
+            AnyPlan::Even(plan) => Ok(AnyPlan::Even(*plan)),
             AnyPlan::Listed(plan) => {
-                let grants = grants_of(plan, heap)?;
-                Ok(listed(plan.numbers(), grants))
+                let grants = Grants::of(plan).map(|(_, grant)| grant).collect(heap)?;
+                Ok(AnyPlan::Listed(ListedPlan::new(plan.numbers(), grants)?))
             }
         }
     }
 }
 
-fn listed(numbers: Numbers, grants: Vec<Grant>) -> Result<AnyPlan, Fault> {
-    Ok(AnyPlan::Listed(ListedPlan::new(numbers, grants)?))
+// The last of a run of timeslots.
+pub fn last(first: u8, width: u8) -> u16 {
+    (u16::from(first) + u16::from(width)).saturating_sub(1)
 }
 
-// The grants of a plan.
-pub fn grants_of<P: SlotPlan>(plan: &P, heap: Global) -> Result<Vec<Grant>, AllocError> {
-    let mut grants = Vec::new(heap);
-    for before in 0..plan.count() {
-        if let Some(grant) = plan.grant(before + 1) {
-            grants.push(grant)?;
-        }
-    }
-    Ok(grants)
-}
-
+// Each answer goes by the kind of plan, since no function may hand out a value of a trait's type.
 impl SlotPlan for AnyPlan {
     ghost meaning = { plan_meaning };
 

@@ -23,6 +23,6 @@ impl Radio {
         draw ^= draw >> 17;
         draw ^= draw << 5;
         self.state = draw;
-        draw % 100 < self.loss as u32
+        draw % 100 < u32::from(self.loss)
     }
 }

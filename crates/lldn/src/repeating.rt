@@ -1,89 +1,72 @@
 // Commands on bitmaps: who repeats where.
-use crate::plans::AnyPlan;
+use crate::plans::{AnyPlan, last};
+use crate::reply::Reply;
+use crate::stops::Stop;
 use frame::Direction;
-use plan::{Grant, Numbers, SlotPlan};
+use plan::{Grant, Grants};
 use repeats::{GroupAcknowledgment, sender};
-use std::io;
-use std::io::{BufWriter, Stdout, Write};
+use std::fmt;
 
-type Out = BufWriter<Stdout>;
-
-// A beacon's bitmap that fitted the plan: the first `count` of these octets.
+// What becomes of a grant's frame by a bitmap.
 #[derive(Clone, Copy)]
-pub struct Heard {
-    octets: [u8; 32],
-    count: usize,
+enum Outcome {
+    Acknowledged,
+    Repeats { first: u8, last: u16 },
+    Lost,
+    NoRepeat,
 }
 
-impl Heard {
-    // The bitmap in these octets, or none where they do not fit the plan.
-    pub fn of(octets: &[u8], numbers: Numbers) -> Option<Heard> {
-        if octets.len() > 32 || !(GroupAcknowledgment { numbers, octets }.fits()) {
-            return None;
-        }
-        let mut heard = [0; 32];
-        heard[0..octets.len()].copy_from_slice(octets);
-        Some(Heard {
-            octets: heard,
-            count: octets.len(),
-        })
-    }
-
-    // The octets that the beacon carried.
-    fn carried(&self) -> &[u8] {
-        if self.count <= 32 {
-            &self.octets[0..self.count]
-        } else {
-            &self.octets
+impl fmt::Display for Outcome {
+    fn fmt<W: fmt::Write>(&self, f: &mut fmt::Formatter<W>) -> fmt::Result {
+        match self {
+            Outcome::Acknowledged => f.write_str("acknowledged"),
+            Outcome::Repeats { first, last } => write!(f, "repeats in {first} to {last}"),
+            Outcome::Lost => f.write_str("lost"),
+            Outcome::NoRepeat => f.write_str("does not repeat"),
         }
     }
 }
 
-// What becomes of each grant by a bitmap.
-pub fn repeats(number: u64, plan: &AnyPlan, heard: &Heard, out: &mut Out) -> io::Result<()> {
-    let numbers = plan.numbers();
-    for before in 0..plan.count() {
-        let i = before + 1;
-        if let Some(grant) = plan.grant(i) {
-            write!(out, "{number}: grant {i} ")?;
-            outcome(numbers, grant, heard, out)?;
-        }
+// Tells what becomes of each grant by a bitmap.
+pub fn repeats(
+    plan: &AnyPlan,
+    bitmap: GroupAcknowledgment<'_>,
+    reply: &mut Reply<'_>,
+) -> Result<(), Stop> {
+    for (i, grant) in Grants::of(plan) {
+        let outcome = outcome_of(bitmap, grant);
+        reply.line(format_args!("grant {i} {outcome}"))?;
     }
     Ok(())
 }
 
 // What becomes of one grant.
-fn outcome(numbers: Numbers, grant: Grant, heard: &Heard, out: &mut Out) -> io::Result<()> {
-    let acknowledgment = GroupAcknowledgment {
-        numbers,
-        octets: heard.carried(),
-    };
-    if acknowledgment.is_set(grant.first) {
-        return writeln!(out, "acknowledged");
+fn outcome_of(bitmap: GroupAcknowledgment<'_>, grant: Grant) -> Outcome {
+    if bitmap.is_set(grant.first) {
+        return Outcome::Acknowledged;
     }
     match (
-        acknowledgment.repeat_start(grant),
-        grant.direction(numbers),
+        bitmap.repeat_start(grant),
+        grant.direction(bitmap.numbers),
     ) {
-        (Some(first), _) => {
-            let last = (first as u16 + grant.width as u16).saturating_sub(1);
-            writeln!(out, "repeats in {first} to {last}")
-        }
-        (None, Direction::Uplink) => writeln!(out, "lost"),
-        (None, Direction::Bidirectional) => writeln!(out, "does not repeat"),
+        (Some(first), _) => Outcome::Repeats {
+            first,
+            last: last(first, grant.width),
+        },
+        (None, Direction::Uplink) => Outcome::Lost,
+        (None, Direction::Bidirectional) => Outcome::NoRepeat,
     }
 }
 
 // Whose frame starts at a timeslot.
 pub fn sender_at(
-    number: u64,
     plan: &AnyPlan,
-    heard: &Heard,
+    octets: &[u8],
     t: u8,
-    out: &mut Out,
-) -> io::Result<()> {
-    match sender(plan, heard.carried(), t) {
-        Some(i) => writeln!(out, "{number}: grant {i}"),
-        None => writeln!(out, "{number}: nobody"),
+    reply: &mut Reply<'_>,
+) -> Result<(), Stop> {
+    match sender(plan, octets, t) {
+        Some(i) => reply.line(format_args!("grant {i}")),
+        None => reply.line("nobody"),
     }
 }

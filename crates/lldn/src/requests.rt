@@ -1,10 +1,11 @@
 // The command that a line of the script is.
-use crate::cargoes::{Inputs, Kind, Source};
+use crate::cargoes::{Kind, Offer, Source};
 use crate::hall::Run;
 use crate::octets::Octets;
 use crate::orders::{Order, order_in};
-use crate::words::{Words, inputs, signed};
-use plan::{Grant, Numbers};
+use crate::stops::Obstacle;
+use crate::words::Words;
+use plan::{EvenGrants, Grant, Numbers};
 use std::str::from_utf8;
 
 // A command of the script.
@@ -19,10 +20,7 @@ pub enum Request<'a> {
     // Makes an even plan.
     Even {
         numbers: Numbers,
-        count: usize,
-        width: u8,
-        address: u64,
-        simple: u8,
+        grants: EvenGrants,
     },
     // Prints the timetable of the plan.
     Timetable,
@@ -32,13 +30,8 @@ pub enum Request<'a> {
     Repeats(Octets),
     // Asks whose frame starts at a timeslot.
     Sender(u8),
-    // Prints the image of a reading.
-    ImageOfReading {
-        value: i32,
-        quality: u8,
-    },
-    // Prints the image of a panel, whose inputs are 0s and 1s.
-    ImageOfPanel(Inputs),
+    // Prints the image of cargo.
+    Image(Offer),
     // Reads octets as cargo of a kind.
     Read {
         kind: Kind,
@@ -55,29 +48,19 @@ pub enum Request<'a> {
     Network(Order<'a>),
 }
 
-// A line of the script.
-#[derive(Drop)]
-pub enum Script<'a> {
-    // Empty, or a comment.
-    Skipped,
-    // No command.
-    NotUnderstood,
-    Command(Request<'a>),
-}
-
-impl<'a> Script<'a> {
-    // What a line is. A word that starts with `#` starts a comment.
-    pub fn of(bytes: &'a [u8]) -> Script<'a> {
-        let Ok(text) = from_utf8(bytes) else {
-            return Script::NotUnderstood;
+impl<'a> Request<'a> {
+    // The command in a line, or none in an empty line or a comment.
+    pub fn of(line: &'a [u8]) -> Result<Option<Request<'a>>, Obstacle> {
+        let Ok(text) = from_utf8(line) else {
+            return Err(Obstacle::NotUnderstood);
         };
         let mut words = Words::of(text);
-        let Some(command) = words.word() else {
-            return Script::Skipped;
+        let Some(command) = words.next() else {
+            return Ok(None);
         };
         match request_in(&mut words, command) {
-            Some(request) if words.word().is_none() => Script::Command(request),
-            _ => Script::NotUnderstood,
+            Some(request) if words.next().is_none() => Ok(Some(request)),
+            _ => Err(Obstacle::NotUnderstood),
         }
     }
 }
@@ -88,15 +71,18 @@ fn request_in<'a>(words: &mut Words<'a>, command: &str) -> Option<Request<'a>> {
         "listed" => Some(Request::Listed(numbers(words)?)),
         "grant" => Some(Request::Grant(grant(words)?)),
         "plan" => Some(Request::Plan),
-        "even" => even(words),
+        "even" => Some(Request::Even {
+            numbers: numbers(words)?,
+            grants: even_grants(words)?,
+        }),
         "timetable" => Some(Request::Timetable),
-        "holder" => Some(Request::Holder(words.small()?)),
+        "holder" => Some(Request::Holder(words.number()?)),
         "repeats" => Some(Request::Repeats(words.octets()?)),
-        "sender" => Some(Request::Sender(words.small()?)),
-        "image" => image(words),
+        "sender" => Some(Request::Sender(words.number()?)),
+        "image" => Some(Request::Image(image(words)?)),
         "read" => read(words, Source::Image),
         "receive" => read(words, Source::Frame),
-        "cargo" => Some(Request::Cargo(words.kind()?)),
+        "cargo" => Some(Request::Cargo(kind(words)?)),
         "coordinator" => Some(Request::Coordinator),
         "hall" => Some(Request::Hall(run(words)?)),
         _ => Some(Request::Network(order_in(words, command)?)),
@@ -106,14 +92,14 @@ fn request_in<'a>(words: &mut Words<'a>, command: &str) -> Option<Request<'a>> {
 // The eight numbers of a plan.
 fn numbers(words: &mut Words<'_>) -> Option<Numbers> {
     Some(Numbers {
-        timeslots: words.small()?,
-        uplink: words.small()?,
-        retransmission: words.small()?,
-        size: words.small()?,
-        management: words.small()?,
-        coordinator: words.small()?,
-        channel: words.small()?,
-        sequence: words.small()?,
+        timeslots: words.number()?,
+        uplink: words.number()?,
+        retransmission: words.number()?,
+        size: words.number()?,
+        management: words.number()?,
+        coordinator: words.number()?,
+        channel: words.number()?,
+        sequence: words.number()?,
     })
 }
 
@@ -121,56 +107,53 @@ fn numbers(words: &mut Words<'_>) -> Option<Numbers> {
 fn grant(words: &mut Words<'_>) -> Option<Grant> {
     Some(Grant {
         address: words.address()?,
-        simple: words.small()?,
-        first: words.small()?,
-        width: words.small()?,
+        simple: words.number()?,
+        first: words.number()?,
+        width: words.number()?,
     })
 }
 
-// An even plan.
-fn even<'a>(words: &mut Words<'a>) -> Option<Request<'a>> {
-    Some(Request::Even {
-        numbers: numbers(words)?,
-        count: words.count()?,
-        width: words.small()?,
+// The grants of an even plan.
+fn even_grants(words: &mut Words<'_>) -> Option<EvenGrants> {
+    Some(EvenGrants {
+        count: words.number()?,
+        width: words.number()?,
         address: words.address()?,
-        simple: words.small()?,
+        simple: words.number()?,
     })
+}
+
+// A kind of cargo.
+fn kind(words: &mut Words<'_>) -> Option<Kind> {
+    words.next()?.parse().ok()
 }
 
 // The cargo whose image is asked for.
-fn image<'a>(words: &mut Words<'a>) -> Option<Request<'a>> {
-    match words.kind()? {
-        Kind::Reading => Some(Request::ImageOfReading {
-            value: signed(words.word()?)?,
-            quality: words.small()?,
-        }),
-        Kind::Panel => Some(Request::ImageOfPanel(inputs(words.word()?)?)),
+fn image(words: &mut Words<'_>) -> Option<Offer> {
+    match kind(words)? {
+        Kind::Reading => Offer::reading(words.next()?, words.next()?),
+        Kind::Panel => Offer::panel(words.next()?),
     }
 }
 
 // What is to be read.
 fn read<'a>(words: &mut Words<'a>, source: Source) -> Option<Request<'a>> {
-    let kind = words.kind()?;
-    let octets = words.octets()?;
     Some(Request::Read {
-        kind,
+        kind: kind(words)?,
         source,
-        octets,
+        octets: words.octets()?,
     })
 }
 
 // How a whole network is run: at most 1000000 superframes, and at most 100 chances in 100 of a loss.
 fn run(words: &mut Words<'_>) -> Option<Run> {
-    let superframes = words.large()?;
-    let loss = words.small()?;
-    let seed = words.large()?;
-    if superframes > 1_000_000 || loss > 100 {
-        return None;
-    }
-    Some(Run {
+    let superframes = words.number()?;
+    let loss = words.number()?;
+    let seed = words.number()?;
+    let run = Run {
         superframes,
         loss,
         seed,
-    })
+    };
+    (superframes <= 1_000_000 && loss <= 100).then_some(run)
 }

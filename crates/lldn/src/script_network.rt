@@ -1,18 +1,15 @@
 // The script's network: a coordinator and devices that carry one kind of cargo.
+use crate::cargoes::Carried;
 use crate::host::Host;
-use crate::orders::FrameWord;
+use crate::orders::{DeviceOrder, FrameWord, HostOrder, Order};
 use crate::plans::AnyPlan;
+use crate::reply::Reply;
 use crate::stations::Station;
-use crate::stops::Stop;
-use cargo::Cargo;
+use crate::stops::{Obstacle, Stop};
 use coordinator::{Heard, Mode};
 use frame::Wish;
 use hexadecimal::Hex;
 use std::alloc::{AllocError, Global};
-use std::io;
-use std::io::{BufWriter, Stdout, Write};
-
-type Out = BufWriter<Stdout>;
 
 // A network. It has to be finished, for its coordinator.
 pub struct Network<C> {
@@ -25,7 +22,7 @@ pub struct Network<C> {
     reply: Option<Vec<u8>>,
 }
 
-impl<C: Cargo + Drop> Network<C> {
+impl<C: Carried> Network<C> {
     pub fn new(heap: Global, plan: AnyPlan) -> Network<C> {
         Network {
             heap,
@@ -51,118 +48,157 @@ impl<C: Cargo + Drop> Network<C> {
         host.finish();
     }
 
-    // Where the device with a name stands.
-    pub fn place(&self, name: &str) -> Result<usize, Stop> {
-        for (k, station) in self.stations.iter().enumerate() {
-            if station.name.as_str() == name {
-                return Ok(k);
-            }
+    // Carries out an order.
+    pub fn run(&mut self, order: Order<'_>, reply: &mut Reply<'_>) -> Result<(), Stop> {
+        match order {
+            Order::Host(order) => self.run_host(order, reply),
+            Order::Device { name, order } => self.run_device(name, order, reply),
         }
-        Err(Stop::NoDevice)
     }
 
-    // The device at a place.
-    pub fn station(&mut self, place: usize) -> Result<&mut Station<C>, Stop> {
-        match self.stations.get_mut(place) {
-            Some(station) => Ok(station),
-            None => Err(Stop::NoDevice),
+    // Carries out an order to the coordinator, or about all devices.
+    fn run_host(&mut self, order: HostOrder<'_>, reply: &mut Reply<'_>) -> Result<(), Stop> {
+        match order {
+            HostOrder::Add {
+                name,
+                address,
+                wish,
+            } => self.add(name, address, wish, reply),
+            HostOrder::Mode(mode) => self.set_mode(mode, reply),
+            HostOrder::Open(space) => self.open(space, reply),
+            HostOrder::Hear { timeslot, frame } => self.hear(timeslot, &frame, reply),
+            HostOrder::HearManagement { frame, space } => {
+                self.hear_management(&frame, space, reply)
+            }
+            HostOrder::Close => self.close(reply),
+            HostOrder::Record(i) => self.tell_record(i, reply),
+            HostOrder::Summary => self.tell_tallies(reply),
         }
+    }
+
+    // Carries out an order to the device that has a name.
+    fn run_device(
+        &mut self,
+        name: &str,
+        order: DeviceOrder<'_>,
+        reply: &mut Reply<'_>,
+    ) -> Result<(), Stop> {
+        match order {
+            DeviceOrder::Beacon(word) => {
+                let frame = self.frame(&word)?;
+                let station = self.station(name)?;
+                station.beacon(frame.ok_or(Obstacle::NoFrame)?.as_slice(), reply)
+            }
+            DeviceOrder::Missed => self.station(name)?.missed(reply),
+            DeviceOrder::Offer(offer) => self.station(name)?.offer(C::of(offer)?, reply),
+            DeviceOrder::Send { timeslot, space } => {
+                let buffer = self.buffer(space)?;
+                self.station(name)?.send(timeslot, buffer, reply)
+            }
+            DeviceOrder::Write(space) => {
+                let buffer = self.buffer(space)?;
+                self.station(name)?.write(buffer, reply)
+            }
+            DeviceOrder::Take(word) => {
+                let frame = self.frame(&word)?;
+                let station = self.station(name)?;
+                station.take(frame.ok_or(Obstacle::NoFrame)?.as_slice(), reply)
+            }
+            DeviceOrder::Phase => self.station(name)?.tell_phase(reply),
+        }
+    }
+
+    // The device with a name.
+    fn station(&mut self, name: &str) -> Result<&mut Station<C>, Obstacle> {
+        self.stations
+            .iter_mut()
+            .find(|station| station.has_name(name))
+            .ok_or(Obstacle::NoDevice)
     }
 
     // What a word stands for, or none where nothing was written yet.
-    pub fn frame(&self, word: &FrameWord<'_>) -> Result<Option<Vec<u8>>, Stop> {
-        match word {
-            FrameWord::Octets(octets) => Ok(Some(octets.as_slice().to_vec(self.heap)?)),
-            FrameWord::Beacon => Ok(copy(&self.beacon)?),
-            FrameWord::Reply => Ok(copy(&self.reply)?),
-            FrameWord::Device(name) => {
-                let place = self.place(name)?;
-                match self.stations.get(place) {
-                    Some(station) => Ok(copy(&station.wrote)?),
-                    None => Err(Stop::NoDevice),
-                }
-            }
-        }
+    fn frame(&self, word: &FrameWord<'_>) -> Result<Option<Vec<u8>>, Stop> {
+        let kept = match word {
+            FrameWord::Octets(octets) => Some(octets.as_slice()),
+            FrameWord::Beacon => self.beacon.as_deref(),
+            FrameWord::Reply => self.reply.as_deref(),
+            FrameWord::Device(name) => self.wrote(name)?,
+        };
+        Ok(kept.map(|octets| octets.to_vec(self.heap)).transpose()?)
+    }
+
+    // What the device with a name wrote last.
+    fn wrote(&self, name: &str) -> Result<Option<&[u8]>, Obstacle> {
+        let station = self.stations.iter().find(|station| station.has_name(name));
+        Ok(station.ok_or(Obstacle::NoDevice)?.wrote.as_deref())
     }
 
     // A buffer of some length.
-    pub fn buffer(&self, space: usize) -> Result<Vec<u8>, AllocError> {
+    fn buffer(&self, space: usize) -> Result<Vec<u8>, AllocError> {
         vec![in self.heap; 0; space]
     }
 
     // Makes a device, unless one has the name or the address.
-    pub fn add(
+    fn add(
         &mut self,
-        number: u64,
         name: &str,
         address: u64,
         wish: Wish,
-        out: &mut Out,
+        reply: &mut Reply<'_>,
     ) -> Result<(), Stop> {
-        if self.has(name, address) {
-            writeln!(out, "{number}: taken")?;
-            return Ok(());
+        let taken = |station: &Station<C>| station.has_name(name) || station.has_address(address);
+        if self.stations.iter().any(taken) {
+            return Err(Obstacle::Taken.into());
         }
-        let station = Station::new(self.heap, name, address, wish)?;
-        if self.stations.push(station).is_err() {
-            return Err(Stop::Memory);
-        }
-        writeln!(out, "{number}: device {name} Idle")?;
-        Ok(())
+        self.stations
+            .push(Station::new(self.heap, name, address, wish)?)?;
+        reply.line(format_args!("device {name} Idle"))
     }
 
-    // Whether a device has a name or an address.
-    fn has(&self, name: &str, address: u64) -> bool {
-        for station in self.stations.iter() {
-            if station.has(name, address) {
-                return true;
-            }
-        }
-        false
-    }
-
-    pub fn set_mode(&mut self, number: u64, mode: Mode, out: &mut Out) -> Result<(), Stop> {
+    fn set_mode(&mut self, mode: Mode, reply: &mut Reply<'_>) -> Result<(), Stop> {
         self.host.set_mode(mode)?;
         let mode = self.host.mode();
-        writeln!(out, "{number}: mode {mode:?}")?;
-        Ok(())
+        reply.line(format_args!("mode {mode:?}"))
     }
 
-    pub fn open(&mut self, number: u64, space: usize, out: &mut Out) -> Result<(), Stop> {
+    fn open(&mut self, space: usize, reply: &mut Reply<'_>) -> Result<(), Stop> {
         let mut buffer = self.buffer(space)?;
         let begun = self.host.open(buffer.as_mut_slice())?;
         let superframe = begun.number;
         buffer.truncate(begun.length);
-        writeln!(
-            out,
-            "{number}: superframe {superframe} beacon {}",
+        reply.line(format_args!(
+            "superframe {superframe} beacon {}",
             Hex(buffer.as_slice())
-        )?;
+        ))?;
         self.beacon = Some(buffer);
         Ok(())
     }
 
-    // The cargo that the coordinator hears.
-    pub fn hear(&mut self, timeslot: u8, word: &FrameWord<'_>) -> Result<Heard<C>, Stop> {
+    fn hear(
+        &mut self,
+        timeslot: u8,
+        word: &FrameWord<'_>,
+        reply: &mut Reply<'_>,
+    ) -> Result<(), Stop> {
         let octets = self.heard(word)?;
-        Ok(self.host.hear(timeslot, octets.as_slice())?)
+        let Heard { simple, cargo } = self.host.hear::<C>(timeslot, octets.as_slice())?;
+        reply.line(format_args!("from {simple} {cargo}"))
     }
 
     // The frame that is to be heard in the open superframe.
     fn heard(&self, word: &FrameWord<'_>) -> Result<Vec<u8>, Stop> {
         let frame = self.frame(word)?;
         if !self.host.is_open() {
-            return Err(Stop::NoSuperframe);
+            return Err(Obstacle::NoSuperframe.into());
         }
-        frame.ok_or(Stop::NoFrame)
+        Ok(frame.ok_or(Obstacle::NoFrame)?)
     }
 
-    pub fn hear_management(
+    fn hear_management(
         &mut self,
-        number: u64,
         word: &FrameWord<'_>,
         space: usize,
-        out: &mut Out,
+        reply: &mut Reply<'_>,
     ) -> Result<(), Stop> {
         let octets = self.heard(word)?;
         let mut buffer = self.buffer(space)?;
@@ -170,51 +206,36 @@ impl<C: Cargo + Drop> Network<C> {
             .host
             .hear_management(octets.as_slice(), buffer.as_mut_slice())?;
         if length == 0 {
-            writeln!(out, "{number}: no reply")?;
-            return Ok(());
+            return reply.line("no reply");
         }
         buffer.truncate(length);
-        writeln!(out, "{number}: reply {}", Hex(buffer.as_slice()))?;
+        reply.line(format_args!("reply {}", Hex(buffer.as_slice())))?;
         self.reply = Some(buffer);
         Ok(())
     }
 
-    pub fn close(&mut self, number: u64, out: &mut Out) -> Result<(), Stop> {
-        match self.host.close() {
-            Some(superframe) => {
-                writeln!(out, "{number}: closed {superframe}")?;
-                Ok(())
-            }
-            None => Err(Stop::NoSuperframe),
-        }
+    fn close(&mut self, reply: &mut Reply<'_>) -> Result<(), Stop> {
+        let superframe = self.host.close().ok_or(Obstacle::NoSuperframe)?;
+        reply.line(format_args!("closed {superframe}"))
     }
 
-    pub fn tell_record(&self, number: u64, i: usize, out: &mut Out) -> io::Result<()> {
+    fn tell_record(&self, i: usize, reply: &mut Reply<'_>) -> Result<(), Stop> {
         let Some(record) = self.host.record(i) else {
-            return writeln!(out, "{number}: none");
+            return reply.line("none");
         };
         let seen = word_for(record.seen);
         let requested = word_for(record.requested);
         let configured = word_for(record.configured);
-        writeln!(
-            out,
-            "{number}: seen {seen} requested {requested} configured {configured}"
-        )
+        reply.line(format_args!(
+            "seen {seen} requested {requested} configured {configured}"
+        ))
     }
 
-    pub fn tell_tallies(&self, number: u64, out: &mut Out) -> io::Result<()> {
+    fn tell_tallies(&self, reply: &mut Reply<'_>) -> Result<(), Stop> {
         for station in self.stations.iter() {
-            station.tell_tally(number, out)?;
+            station.tell_tally(reply)?;
         }
         Ok(())
-    }
-}
-
-// A copy of what was kept.
-fn copy(kept: &Option<Vec<u8>>) -> Result<Option<Vec<u8>>, AllocError> {
-    match kept {
-        Some(octets) => Ok(Some(octets.clone()?)),
-        None => Ok(None),
     }
 }
 

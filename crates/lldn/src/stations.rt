@@ -1,4 +1,5 @@
 // A device of the script's network, and what it is ordered.
+use crate::reply::Reply;
 use crate::stops::Stop;
 use crate::tallies::Tally;
 use cargo::Cargo;
@@ -6,10 +7,6 @@ use device::{Device, Fate};
 use frame::Wish;
 use hexadecimal::Hex;
 use std::alloc::{AllocError, Global};
-use std::io;
-use std::io::{BufWriter, Stdout, Write};
-
-type Out = BufWriter<Stdout>;
 
 // A device with a name.
 #[derive(Drop)]
@@ -26,109 +23,102 @@ impl<C: Cargo + Drop> Station<C> {
         Ok(Station {
             name: String::from_str(heap, name)?,
             device: Device::new(address, wish),
-            tally: Tally::new(),
+            tally: Tally::default(),
             wrote: None,
         })
     }
 
-    // Whether it has a name or an address.
-    pub fn has(&self, name: &str, address: u64) -> bool {
-        self.name.as_str() == name || self.device.address() == address
+    pub fn has_name(&self, name: &str) -> bool {
+        self.name.as_str() == name
     }
 
-    pub fn beacon(&mut self, number: u64, octets: &[u8], out: &mut Out) -> Result<(), Stop> {
+    pub fn has_address(&self, address: u64) -> bool {
+        self.device.address() == address
+    }
+
+    pub fn beacon(&mut self, octets: &[u8], reply: &mut Reply<'_>) -> Result<(), Stop> {
         let fate = self.device.beacon(octets)?;
-        self.tell_fate(number, fate, out)?;
-        Ok(())
+        self.tell_fate(fate, reply)
     }
 
-    pub fn missed(&mut self, number: u64, out: &mut Out) -> Result<(), Stop> {
+    pub fn missed(&mut self, reply: &mut Reply<'_>) -> Result<(), Stop> {
         let fate = self.device.missed();
-        self.tell_fate(number, fate, out)?;
-        Ok(())
+        self.tell_fate(fate, reply)
     }
 
     // Counts a fate, and tells it.
-    fn tell_fate(&mut self, number: u64, fate: Option<Fate>, out: &mut Out) -> io::Result<()> {
+    fn tell_fate(&mut self, fate: Option<Fate>, reply: &mut Reply<'_>) -> Result<(), Stop> {
         self.tally.count(fate);
         match fate {
-            Some(fate) => writeln!(out, "{number}: fate {fate:?}"),
-            None => writeln!(out, "{number}: no fate"),
+            Some(fate) => reply.line(format_args!("fate {fate:?}")),
+            None => reply.line("no fate"),
         }
     }
 
-    pub fn offer(&mut self, number: u64, cargo: C, out: &mut Out) -> Result<(), Stop> {
+    pub fn offer(&mut self, cargo: C, reply: &mut Reply<'_>) -> Result<(), Stop> {
         self.device.offer(cargo)?;
         self.tally.accept();
-        writeln!(out, "{number}: accepted")?;
-        Ok(())
+        reply.line("accepted")
     }
 
     pub fn send(
         &mut self,
-        number: u64,
         timeslot: u8,
         mut buffer: Vec<u8>,
-        out: &mut Out,
+        reply: &mut Reply<'_>,
     ) -> Result<(), Stop> {
         let length = self.device.send(timeslot, buffer.as_mut_slice())?;
-        self.tell_frame(number, length, buffer, out)?;
-        Ok(())
+        self.tell_frame(length, buffer, reply)
     }
 
-    pub fn write(&mut self, number: u64, mut buffer: Vec<u8>, out: &mut Out) -> Result<(), Stop> {
+    pub fn write(&mut self, mut buffer: Vec<u8>, reply: &mut Reply<'_>) -> Result<(), Stop> {
         let length = self.device.write_management(buffer.as_mut_slice())?;
-        self.tell_frame(number, length, buffer, out)?;
-        Ok(())
+        self.tell_frame(length, buffer, reply)
     }
 
     // Keeps and tells the frame that was written into a buffer.
     fn tell_frame(
         &mut self,
-        number: u64,
         length: usize,
         mut buffer: Vec<u8>,
-        out: &mut Out,
-    ) -> io::Result<()> {
+        reply: &mut Reply<'_>,
+    ) -> Result<(), Stop> {
         if length == 0 {
-            return writeln!(out, "{number}: nothing");
+            return reply.line("nothing");
         }
         buffer.truncate(length);
-        writeln!(out, "{number}: frame {}", Hex(buffer.as_slice()))?;
+        reply.line(format_args!("frame {}", Hex(buffer.as_slice())))?;
         self.wrote = Some(buffer);
         Ok(())
     }
 
-    pub fn take(&mut self, number: u64, octets: &[u8], out: &mut Out) -> Result<(), Stop> {
+    pub fn take(&mut self, octets: &[u8], reply: &mut Reply<'_>) -> Result<(), Stop> {
         self.device.take(octets)?;
-        writeln!(out, "{number}: taken")?;
-        Ok(())
+        reply.line("taken")
     }
 
     // Tells how far the device has come, and its grant.
-    pub fn tell_phase(&self, number: u64, out: &mut Out) -> io::Result<()> {
+    pub fn tell_phase(&self, reply: &mut Reply<'_>) -> Result<(), Stop> {
         let phase = self.device.phase();
-        write!(out, "{number}: phase {phase:?}")?;
-        match self.device.configuration() {
-            Some(told) => {
-                let simple = told.simple;
-                let first = told.first;
-                let width = told.width;
-                writeln!(out, " simple {simple} first {first} slots {width}")
-            }
-            None => writeln!(out, ""),
-        }
+        let Some(told) = self.device.configuration() else {
+            return reply.line(format_args!("phase {phase:?}"));
+        };
+        let simple = told.simple;
+        let first = told.first;
+        let width = told.width;
+        reply.line(format_args!(
+            "phase {phase:?} simple {simple} first {first} slots {width}"
+        ))
     }
 
     // Tells what became of the device's cargo.
-    pub fn tell_tally(&self, number: u64, out: &mut Out) -> io::Result<()> {
+    pub fn tell_tally(&self, reply: &mut Reply<'_>) -> Result<(), Stop> {
         let name = self.name.as_str();
         let tally = self.tally;
-        let sent = self.device.has_sent() as u8;
-        let waiting = self.device.is_waiting() as u8;
-        writeln!(
-            out,
-            "{number}: device {name} {tally} sent {sent} waiting {waiting}"
-        )
+        let sent = u8::from(self.device.has_sent());
+        let waiting = u8::from(self.device.is_waiting());
+        reply.line(format_args!(
+            "device {name} {tally} sent {sent} waiting {waiting}"
+        ))
     }
 }

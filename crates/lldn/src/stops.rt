@@ -1,68 +1,72 @@
-// Why an order has no answer of its own.
+// What keeps a line from an answer of its own.
 use crate::cargoes::Kind;
 use frame::Fault;
-use std::alloc::AllocError;
+use std::alloc::{AllocError, AllocFailed};
 use std::io;
-use std::io::{BufWriter, Stdout, Write};
+use thiserror::Error;
 
-// What stops an order.
+// Why a line is not carried out, as it is answered.
+#[derive(Clone, Copy, Debug, Error)]
+pub enum Obstacle {
+    #[error("not understood")]
+    NotUnderstood,
+    #[error("no plan")]
+    NoPlan,
+    #[error("misfit")]
+    Misfit,
+    #[error("no bitmap")]
+    NoBitmap,
+    #[error("no coordinator")]
+    NoCoordinator,
+    #[error("taken")]
+    Taken,
+    #[error("no device")]
+    NoDevice,
+    #[error("no open superframe")]
+    NoSuperframe,
+    #[error("no frame")]
+    NoFrame,
+    #[error("no such {0}")]
+    NoCargo(Kind),
+    #[error("refused {0}")]
+    Refused(Fault),
+}
+
+// What stops a command.
 #[derive(Drop)]
 pub enum Stop {
-    // No device has the name.
-    NoDevice,
-    // No superframe is open.
-    NoSuperframe,
-    // Nothing was written yet.
-    NoFrame,
-    // The values are no cargo of this kind.
-    NoCargo(Kind),
-    // The cargo is not of the network's kind.
-    OtherKind,
-    // The network refuses.
-    Refused(Fault),
-    // There is no memory.
-    Memory,
-    // The answer cannot be written.
-    Output(io::Error),
+    // It is answered, and the script goes on.
+    Obstacle(Obstacle),
+    // There is no memory, or the answer cannot be written.
+    Failure(io::Error),
+}
+
+impl From<Obstacle> for Stop {
+    fn from(obstacle: Obstacle) -> Stop {
+        Stop::Obstacle(obstacle)
+    }
 }
 
 impl From<Fault> for Stop {
     fn from(fault: Fault) -> Stop {
-        Stop::Refused(fault)
-    }
-}
-
-impl From<AllocError> for Stop {
-    fn from(_error: AllocError) -> Stop {
-        Stop::Memory
+        Stop::Obstacle(Obstacle::Refused(fault))
     }
 }
 
 impl From<io::Error> for Stop {
     fn from(error: io::Error) -> Stop {
-        Stop::Output(error)
+        Stop::Failure(error)
     }
 }
 
-impl Stop {
-    // Answers what stopped the order of a line.
-    pub fn tell(self, number: u64, out: &mut BufWriter<Stdout>) -> io::Result<()> {
-        match self {
-            Stop::NoDevice => writeln!(out, "{number}: no device"),
-            Stop::NoSuperframe => writeln!(out, "{number}: no open superframe"),
-            Stop::NoFrame => writeln!(out, "{number}: no frame"),
-            Stop::NoCargo(Kind::Reading) => writeln!(out, "{number}: no such reading"),
-            Stop::NoCargo(Kind::Panel) => writeln!(out, "{number}: no such panel"),
-            Stop::OtherKind => writeln!(out, "{number}: not understood"),
-            Stop::Refused(fault) => writeln!(out, "{number}: refused {fault}"),
-            Stop::Memory => no_memory(),
-            Stop::Output(error) => Err(error),
-        }
+impl From<AllocError> for Stop {
+    fn from(error: AllocError) -> Stop {
+        Stop::Failure(error.into())
     }
 }
 
-fn no_memory() -> io::Result<()> {
-    let refused: Result<(), AllocError> = Err(AllocError);
-    refused?;
-    Ok(())
+impl<T: Drop> From<AllocFailed<T>> for Stop {
+    fn from(failed: AllocFailed<T>) -> Stop {
+        Stop::Failure(failed.into())
+    }
 }

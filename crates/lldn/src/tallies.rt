@@ -3,7 +3,7 @@ use device::Fate;
 use std::fmt;
 
 // How many cargoes a device accepted, and how many met each fate.
-#[derive(Clone, Copy)]
+#[derive(Clone, Copy, Default)]
 pub struct Tally {
     pub accepted: u32,
     confirmed: u32,
@@ -13,40 +13,36 @@ pub struct Tally {
 }
 
 impl Tally {
-    pub fn new() -> Tally {
-        Tally {
-            accepted: 0,
-            confirmed: 0,
-            repeated: 0,
-            lost: 0,
-            unknown: 0,
-        }
-    }
-
     // Counts one more accepted cargo.
     pub fn accept(&mut self) {
-        self.accepted = self.accepted.saturating_add(1);
+        raise(&mut self.accepted);
     }
 
     // Counts a fate, if one was told.
     pub fn count(&mut self, fate: Option<Fate>) {
         match fate {
-            Some(Fate::Confirmed) => self.confirmed = self.confirmed.saturating_add(1),
-            Some(Fate::Repeated) => self.repeated = self.repeated.saturating_add(1),
-            Some(Fate::Lost) => self.lost = self.lost.saturating_add(1),
-            Some(Fate::Unknown) => self.unknown = self.unknown.saturating_add(1),
+            Some(Fate::Confirmed) => raise(&mut self.confirmed),
+            Some(Fate::Repeated) => raise(&mut self.repeated),
+            Some(Fate::Lost) => raise(&mut self.lost),
+            Some(Fate::Unknown) => raise(&mut self.unknown),
             None => {}
         }
     }
 }
 
+fn raise(count: &mut u32) {
+    *count = count.saturating_add(1);
+}
+
 impl fmt::Display for Tally {
     fn fmt<W: fmt::Write>(&self, f: &mut fmt::Formatter<W>) -> fmt::Result {
-        let accepted = self.accepted;
-        let confirmed = self.confirmed;
-        let repeated = self.repeated;
-        let lost = self.lost;
-        let unknown = self.unknown;
+        let Tally {
+            accepted,
+            confirmed,
+            repeated,
+            lost,
+            unknown,
+        } = self;
         write!(f, "accepted {accepted} Confirmed {confirmed} ")?;
         write!(f, "Repeated {repeated} Lost {lost} Unknown {unknown}")
     }

@@ -1,59 +1,52 @@
 // What a plan says of its timeslots.
-use crate::plans::AnyPlan;
-use frame::Direction;
+use crate::plans::{AnyPlan, last};
+use crate::reply::Reply;
+use crate::stops::Stop;
 use hexadecimal::Hex;
-use plan::SlotPlan;
-use std::io;
-use std::io::{BufWriter, Stdout, Write};
+use plan::{Grant, Grants, SlotPlan};
 use times::{beacon_symbols, grant_time, superframe_symbols, to_microseconds};
 
-type Out = BufWriter<Stdout>;
-
 // Who holds a timeslot.
-pub fn holder(number: u64, plan: &AnyPlan, t: u8, out: &mut Out) -> io::Result<()> {
+pub fn holder(plan: &AnyPlan, t: u8, reply: &mut Reply<'_>) -> Result<(), Stop> {
     match plan.holder(t) {
-        Some(i) => writeln!(out, "{number}: grant {i}"),
-        None => writeln!(out, "{number}: none"),
+        Some(i) => reply.line(format_args!("grant {i}")),
+        None => reply.line("none"),
     }
 }
 
 // The beacon, each grant, and the whole superframe.
-pub fn timetable(number: u64, plan: &AnyPlan, out: &mut Out) -> io::Result<()> {
+pub fn timetable(plan: &AnyPlan, reply: &mut Reply<'_>) -> Result<(), Stop> {
     let beacon = beacon_symbols(plan.numbers());
-    writeln!(out, "{number}: beacon symbols 0 to {beacon}")?;
-    for before in 0..plan.count() {
-        grant_line(number, plan, before + 1, out)?;
+    reply.line(format_args!("beacon symbols 0 to {beacon}"))?;
+    for (i, grant) in Grants::of(plan) {
+        grant_line(plan, i, grant, reply)?;
     }
     let symbols = superframe_symbols(plan);
     let microseconds = to_microseconds(symbols);
-    writeln!(
-        out,
-        "{number}: superframe symbols {symbols} microseconds {microseconds}"
-    )
+    reply.line(format_args!(
+        "superframe symbols {symbols} microseconds {microseconds}"
+    ))
 }
 
-// Grant i, if there is one.
-fn grant_line(number: u64, plan: &AnyPlan, i: usize, out: &mut Out) -> io::Result<()> {
-    let (Some(grant), Some((start, end))) = (plan.grant(i), grant_time(plan, i)) else {
+// Grant i, if it has a time.
+fn grant_line(
+    plan: &AnyPlan,
+    i: usize,
+    grant: Grant,
+    reply: &mut Reply<'_>,
+) -> Result<(), Stop> {
+    let Some((start, end)) = grant_time(plan, i) else {
         return Ok(());
     };
     let numbers = plan.numbers();
     let address = grant.address.to_be_bytes();
-    let direction = match grant.direction(numbers) {
-        Direction::Uplink => "uplink",
-        Direction::Bidirectional => "bidirectional",
-    };
+    let direction = grant.direction(numbers);
     let simple = grant.simple;
     let first = grant.first;
-    let last = (first as u16 + grant.width as u16).saturating_sub(1);
+    let last = last(first, grant.width);
     let carried = grant.carries(numbers.size);
-    write!(
-        out,
-        "{number}: grant {i} address {} simple {simple} {direction} ",
+    reply.line(format_args!(
+        "grant {i} address {} simple {simple} {direction} timeslots {first} to {last} symbols {start} to {end} carries {carried}",
         Hex(&address)
-    )?;
-    writeln!(
-        out,
-        "timeslots {first} to {last} symbols {start} to {end} carries {carried}"
-    )
+    ))
 }

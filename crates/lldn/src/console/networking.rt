@@ -1,72 +1,52 @@
 // What the console answers on networks.
-use super::{Console, Out, no_plan, refuse};
+use super::Console;
 use crate::cargoes::Kind;
-use crate::hall::{Run, hall};
+use crate::hall::{Run, tell_hall};
 use crate::networks::AnyNetwork;
 use crate::orders::Order;
-use std::io::Write;
-use std::{io, mem};
+use crate::reply::Reply;
+use crate::stops::{Obstacle, Stop};
+use std::mem;
 
 impl Console {
     // Sets the kind of cargo; the network that was made before is gone.
-    pub fn carry(&mut self, number: u64, kind: Kind, out: &mut Out) -> io::Result<()> {
+    pub fn carry(&mut self, kind: Kind, reply: &mut Reply<'_>) -> Result<(), Stop> {
         self.kind = kind;
         end(mem::replace(&mut self.network, None));
-        match kind {
-            Kind::Reading => writeln!(out, "{number}: cargo reading"),
-            Kind::Panel => writeln!(out, "{number}: cargo panel"),
-        }
+        reply.line(format_args!("cargo {kind}"))
     }
 
     // Makes a network over the plan; the one that was made before is gone.
-    pub fn make_network(&mut self, number: u64, out: &mut Out) -> io::Result<()> {
-        let Some(plan) = &self.plan else {
-            return no_plan(number, out);
-        };
-        match plan.again(self.heap)? {
-            Ok(plan) => {
-                let network = AnyNetwork::new(self.heap, self.kind, plan);
-                let mode = network.mode();
-                end(mem::replace(&mut self.network, Some(network)));
-                writeln!(out, "{number}: coordinator {mode:?}")
-            }
-            Err(fault) => refuse(number, fault, out),
-        }
+    pub fn make_network(&mut self, reply: &mut Reply<'_>) -> Result<(), Stop> {
+        let plan = self.accepted()?.plan.again(self.heap)?;
+        let network = AnyNetwork::new(self.heap, self.kind, plan);
+        let mode = network.mode();
+        end(mem::replace(&mut self.network, Some(network)));
+        reply.line(format_args!("coordinator {mode:?}"))
     }
 
     // Runs a whole network of its own over the plan.
-    pub fn run_hall(&self, number: u64, run: Run, out: &mut Out) -> io::Result<()> {
-        let Some(plan) = &self.plan else {
-            return no_plan(number, out);
-        };
-        match plan.again(self.heap)? {
-            Ok(plan) => hall(number, self.heap, plan, run, out),
-            Err(fault) => refuse(number, fault, out),
-        }
+    pub fn run_hall(&self, run: Run, reply: &mut Reply<'_>) -> Result<(), Stop> {
+        let plan = self.accepted()?.plan.again(self.heap)?;
+        tell_hall(self.heap, plan, run, reply)
     }
 
     // Gives an order to the network.
-    pub fn order(&mut self, number: u64, order: Order<'_>, out: &mut Out) -> io::Result<()> {
+    pub fn order(&mut self, order: Order<'_>, reply: &mut Reply<'_>) -> Result<(), Stop> {
         if !order.suits(self.kind) {
-            return writeln!(out, "{number}: not understood");
+            return Err(Obstacle::NotUnderstood.into());
         }
-        if self.plan.is_none() {
-            return no_plan(number, out);
-        }
-        let Some(network) = &mut self.network else {
-            return writeln!(out, "{number}: no coordinator");
-        };
-        match network.run(number, order, out) {
-            Ok(()) => Ok(()),
-            Err(stop) => stop.tell(number, out),
+        self.accepted()?;
+        match &mut self.network {
+            Some(network) => network.run(order, reply),
+            None => Err(Obstacle::NoCoordinator.into()),
         }
     }
 }
 
 // Ends a network, if there is one.
 pub fn end(network: Option<AnyNetwork>) {
-    match network {
-        Some(network) => network.finish(),
-        None => {}
+    if let Some(network) = network {
+        network.finish();
     }
 }
