@@ -16,37 +16,49 @@ const HEADER: BeaconHeader = BeaconHeader {
     size: 5,
 };
 
-// Prints a writer's answer, the whole buffer, and how the frame in it reads.
-fn show(rt: &HostRuntime, answer: Result<usize, Fault>, buffer: &[u8]) -> io::Result<()> {
-    let held = Hex(buffer);
-    match answer {
-        Ok(length) => println!(rt; "{length} octets: {held}: {}", report(buffer, length)),
-        Err(fault) => println!(rt; "refused {fault}: {held}"),
+// A buffer into which frames are written, one after another.
+#[derive(Drop)]
+struct Page<'r, 'b> {
+    rt: &'r HostRuntime,
+    buffer: &'b mut [u8],
+}
+
+impl<'r, 'b> Page<'r, 'b> {
+    fn new(rt: &'r HostRuntime, buffer: &'b mut [u8]) -> Page<'r, 'b> {
+        Page { rt, buffer }
+    }
+
+    // Writes a frame, and prints the writer's answer, the whole buffer, and how the frame in it reads.
+    fn show<W: FnOnce(&mut [u8]) -> Result<usize, Fault>>(&mut self, write: W) -> io::Result<()>
+        requires { W.IsAlwaysCallable write }
+    {
+        let rt = self.rt;
+        let answer = write(self.buffer);
+        let buffer = &*self.buffer;
+        let held = Hex(buffer);
+        match answer {
+            Ok(length) => {
+                let report = Report::from(read(buffer.get(..length).unwrap_or(buffer)));
+                println!(rt; "{length} octets: {held}: {report}")
+            }
+            Err(fault) => println!(rt; "refused {fault}: {held}"),
+        }
     }
 }
 
-// How the first octets of a buffer read.
-fn report(buffer: &[u8], length: usize) -> Report<'_> {
-    match read(buffer.get(..length).unwrap_or(buffer)) {
-        Ok(frame) => Report::Sound(frame),
-        Err(fault) => Report::Refused(fault),
-    }
-}
-
-fn beacons(rt: &HostRuntime, buffer: &mut [u8]) -> io::Result<()> {
-    show(rt, write_online_beacon(HEADER, 8, &[0x25], buffer), buffer)?;
+fn beacons(page: &mut Page<'_, '_>) -> io::Result<()> {
+    page.show(|buffer| write_online_beacon(HEADER, 8, &[0x25], buffer))?;
     for timeslots in [1u8, 7] {
         if let Ok(width) = ManagementWidth::try_from(timeslots) {
             for state in [ManagementState::Discovery, ManagementState::Configuration] {
-                let answer = write_management_beacon(HEADER, state, width, buffer);
-                show(rt, answer, buffer)?;
+                page.show(|buffer| write_management_beacon(HEADER, state, width, buffer))?;
             }
         }
     }
-    show(rt, write_reset_beacon(HEADER, buffer), buffer)
+    page.show(|buffer| write_reset_beacon(HEADER, buffer))
 }
 
-fn commands(rt: &HostRuntime, buffer: &mut [u8]) -> io::Result<()> {
+fn commands(page: &mut Page<'_, '_>) -> io::Result<()> {
     let wish = Wish {
         width: 1,
         direction: Direction::Bidirectional,
@@ -76,36 +88,37 @@ fn commands(rt: &HostRuntime, buffer: &mut [u8]) -> io::Result<()> {
         configuration,
     };
     for command in [response, status, request] {
-        show(rt, write_command(command, buffer), buffer)?;
+        page.show(|buffer| write_command(command, buffer))?;
     }
     Ok(())
 }
 
-fn data_and_acknowledgments(rt: &HostRuntime, buffer: &mut [u8]) -> io::Result<()> {
-    show(rt, write_data(&[0xff, 0xff, 0xff, 0xff, 0], buffer), buffer)?;
-    show(rt, write_data(&[], buffer), buffer)?;
+fn data_and_acknowledgments(page: &mut Page<'_, '_>) -> io::Result<()> {
+    page.show(|buffer| write_data(&[0xff, 0xff, 0xff, 0xff, 0], buffer))?;
+    page.show(|buffer| write_data(&[], buffer))?;
     for acknowledged in [
         Acknowledged::Data,
         Acknowledged::DiscoverResponse,
         Acknowledged::ConfigurationRequest,
     ] {
-        show(rt, write_acknowledgment(acknowledged, buffer), buffer)?;
+        page.show(|buffer| write_acknowledgment(acknowledged, buffer))?;
     }
     Ok(())
 }
 
 // A buffer that is one octet too short, a bitmap of 33 octets and a payload of 125.
-fn refusals(rt: &HostRuntime, buffer: &mut [u8]) -> io::Result<()> {
-    show(rt, write_reset_beacon(HEADER, buffer), buffer)?;
-    show(rt, write_data(&[1, 2, 3], buffer), buffer)?;
-    show(rt, write_data(&[1, 2, 3, 4], buffer), buffer)?;
-    show(rt, write_online_beacon(HEADER, 8, &[0; 33], buffer), buffer)?;
-    show(rt, write_data(&[0; 125], buffer), buffer)
+fn refusals(page: &mut Page<'_, '_>) -> io::Result<()> {
+    page.show(|buffer| write_reset_beacon(HEADER, buffer))?;
+    page.show(|buffer| write_data(&[1, 2, 3], buffer))?;
+    page.show(|buffer| write_data(&[1, 2, 3, 4], buffer))?;
+    page.show(|buffer| write_online_beacon(HEADER, 8, &[0; 33], buffer))?;
+    page.show(|buffer| write_data(&[0; 125], buffer))
 }
 
+// Each page is as long as its longest frame and an octet more; the last one is too short.
 fn main(rt: HostRuntime) -> io::Result<()> {
-    beacons(&rt, &mut [0xee; 8])?;
-    data_and_acknowledgments(&rt, &mut [0xee; 7])?;
-    commands(&rt, &mut [0xee; 21])?;
-    refusals(&rt, &mut [0xee; 4])
+    beacons(&mut Page::new(&rt, &mut [0xee; 8]))?;
+    data_and_acknowledgments(&mut Page::new(&rt, &mut [0xee; 7]))?;
+    commands(&mut Page::new(&rt, &mut [0xee; 21]))?;
+    refusals(&mut Page::new(&rt, &mut [0xee; 4]))
 }
