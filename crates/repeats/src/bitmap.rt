@@ -47,6 +47,7 @@ fn mark_timeslot(bitmap: &mut [u8], numbers: Numbers, t: u16)
         return;
     }
     let place = usize::from(t - last - 1);
+    // The contract of `get_mut` does not say what the slice ends as.
     if place / 8 < bitmap.len() {
         bitmap[place / 8] |= 1 << (place % 8);
     }
@@ -72,7 +73,9 @@ impl GroupAcknowledgment<'_> {
     fn bit_is_set(self, k: usize) -> bool
         ensures { result ≡ (bit self.entry.octets.now k == 1) }
     {
-        k / 8 < self.octets.len() && (self.octets[k / 8] >> (k % 8)) % 2 == 1
+        self.octets
+            .get(k / 8)
+            .is_some_and(|octet| (octet >> (k % 8)) % 2 == 1)
     }
 
     // Whether the octets are as many as the bitmap of a beacon has, with every padding bit zero.

@@ -37,7 +37,7 @@ impl GroupAcknowledgment<'_> {
     }
 
     // The first timeslot of the grant's repeat, or none.
-    #[tactic(auto, unfolding(crate::specs::Starts::repeat_start))]
+    #[tactic(auto, using(crate::proofs::Counting::zeros_few), unfolding(crate::specs::Starts::repeat_start))]
     pub fn repeat_start(self, grant: Grant) -> Option<u8>
         ensures { result ≡ repeat_start self.entry.numbers self.entry.octets.now grant }
     {
