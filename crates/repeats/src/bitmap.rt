@@ -5,7 +5,7 @@ ghost use Rattle.repeats.specs.Bitmaps.{bit, acknowledged, missed, nothing_heard
 
 use plan::{Grant, Numbers};
 
-// A coordinator's bitmap, with room for every plan.
+// A coordinator's bitmap, with room for every plan. There is no heap, and it is gathered and sent by value.
 pub type Bitmap = [u8; 32];
 
 // A group acknowledgment: octets of a bitmap, a whole one or a beacon's part, and the numbers that say whose each bit is.
@@ -24,6 +24,7 @@ pub fn no_bits() -> Bitmap
 
 // The bitmap with the grant's timeslots acknowledged, and every other bit as before.
 // Where nothing is acknowledged each grant's bits are alike, and marking keeps them so.
+// The bitmap is a coordinator's own, by value, so no GroupAcknowledgment, which borrows.
 pub fn marked(bitmap: Bitmap, numbers: Numbers, grant: Grant) -> Bitmap
     ensures answer { result ≡ marked_with numbers bitmap grant }
     ensures marks { Marks numbers bitmap grant result }
