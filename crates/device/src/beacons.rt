@@ -19,6 +19,7 @@ impl<C: Cargo + Drop> Device<C> {
         if self.sent.is_none() {
             return None;
         }
+        // By `map_or` with a closure, which would borrow the beacon, the answer was not proved.
         match self.member() {
             Some(member) => Some(member.fate_by(beacon)),
             None => Some(Fate::Unknown),
@@ -35,6 +36,7 @@ impl<C: Cargo + Drop> Device<C> {
             _ => None,
         };
         self.news = news_of(beacon);
+        // In place, by the phase and the beacon's state in one match.
         self.phase = match (beacon.state, self.phase) {
             (BeaconState::Reset, _) => Phase::Idle,
             (BeaconState::Configuration { .. }, Phase::Thanking) => Phase::Thanking,

@@ -29,7 +29,7 @@ fn by_room(start: Option<u8>) -> Fate
     }
 }
 
-// Cargo to be repeated from a timeslot on, or let go.
+// Cargo to be repeated from a timeslot on, or let go. By `zip` and `map` in its one caller it was not proved.
 pub(crate) fn to_repeat<C: Drop>(start: Option<u8>, cargo: C) -> Option<Repeat<C>>
     ensures { result ≡ to_repeat start cargo }
 {

@@ -14,7 +14,7 @@ pub(crate) struct Beacon<'a> {
     pub(crate) state: BeaconState<'a>,
 }
 
-// A frame as a beacon; any other is unwanted.
+// A frame as a beacon; any other is unwanted. A TryFrom for this one caller would be no plainer.
 fn as_beacon(frame: Frame<'_>) -> Result<Beacon<'_>, Fault>
     ensures { heard_in result ≡ as_beacon (told frame.entry).message }
 {

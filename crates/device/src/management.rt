@@ -25,10 +25,9 @@ impl<C: Cargo + Drop> Device<C> {
     fn status(&self) -> Command
         ensures { result ≡ status self.now.address self.now.wish self.now.configuration }
     {
-        let (simple, first, width) = match self.configuration {
-            Some(told) => (told.simple, told.first, told.width),
-            None => (255, 0, 0),
-        };
+        let (simple, first, width) = self
+            .configuration
+            .map_or((255, 0, 0), |told| (told.simple, told.first, told.width));
         Command::ConfigurationStatus {
             address: self.address,
             simple,

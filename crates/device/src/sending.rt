@@ -22,6 +22,7 @@ fn write_cargo<C: Cargo>(cargo: &C, buffer: &mut [u8]) -> Result<usize, Fault>
     ensures answer { result ≡ fitting (octets_of (data_frame (C.image cargo.now))) buffer.old }
     ensures memory { buffer.new ≡ left_by result (octets_of (data_frame (C.image cargo.now))) buffer.old }
 {
+    // There is no heap: the most octets that a frame carries.
     let mut payload = [0; 124];
     let length = cargo.write(&mut payload)?;
     write_data(&payload[..length], buffer)

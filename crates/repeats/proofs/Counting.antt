@@ -1,5 +1,5 @@
 -- How many numbers below one pass a test.
-use Rattle.std.proofs.Common.{◌≡◌, ℕ, zero, suc, ◌+◌, ◌-◌, ◌<◌, ◌≤◌, Bool, true, false, cond, List, sym, ap, ◌∙◌, inl, inr, add-zero, add-suc, add-one, arith}
+use Rattle.std.proofs.Common.{◌≡◌, ℕ, zero, suc, ◌+◌, ◌-◌, ◌<◌, ◌≤◌, Bool, true, false, cond, List, ap, ◌∙◌, inl, inr, add-zero, add-suc, arith}
 use Rattle.std.proofs.lemmas.Bool.{cases_Bool, and_parts, ltb-true}
 use Rattle.plan.specs.declared.grant.Numbers.{Numbers}
 use Rattle.repeats.specs.Bitmaps.{missed}
@@ -48,10 +48,3 @@ zeros_few n xs (suc t) =
           omega arith
       | inr q ↦ let s = count_skip (missed n xs) t q in omega arith
     ]
-
--- one more timeslot
-pub zeros_more : (n : Numbers) (xs : List ℕ) (t z y : ℕ) (b : Bool) → z ≡ zeros n xs t → missed n xs t ≡ b → y ≡ z + cond b 1 0 → y ≡ zeros n xs (t + 1)
-zeros_more n xs t z y b e q s =
-    let h : zeros n xs (suc t) ≡ zeros n xs t + cond b 1 0 = ap (λ (x : Bool). zeros n xs t + cond x 1 0) q in
-    let f : zeros n xs (t + 1) ≡ zeros n xs (suc t) = ap (zeros n xs) (add-one t) in
-    s ∙ ap (λ (x : ℕ). x + cond b 1 0) e ∙ sym h ∙ sym f

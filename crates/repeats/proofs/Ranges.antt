@@ -1,5 +1,5 @@
 -- Tests at each number of a range.
-use Rattle.std.proofs.Common.{◌≡◌, ℕ, zero, suc, ◌+◌, ◌<◌, ◌≤◌, Bool, true, length, refl, ap, inl, inr, add-zero, add-one, arith}
+use Rattle.std.proofs.Common.{◌≡◌, ℕ, zero, suc, ◌+◌, ◌<◌, ◌≤◌, Bool, true, length, refl, ap, inl, inr, add-zero, zero-add, add-one, arith}
 use Rattle.std.specs.List.{range_with_len, list_all, filter}
 use Rattle.std.proofs.lemmas.Bool.{cases_Bool, cases_eq, and_parts, and_from}
 use Rattle.repeats.specs.Starts.{count_below}
@@ -21,7 +21,7 @@ module _ (p : ℕ → Bool) where
   all_pass a (suc n) h = and_from (p a) _ (h a (omega arith)) (all_pass (a + 1) n (λ j low. h j (omega arith)))
 
   -- how many pass
-  pub count_from : (a n : ℕ) → count_below p a + length (filter p (range_with_len a n)) ≡ count_below p (a + n)
+  count_from : (a n : ℕ) → count_below p a + length (filter p (range_with_len a n)) ≡ count_below p (a + n)
   count_from a zero = omega (arith, ap (count_below p) (add-zero a))
   count_from a (suc n) =
       let e : count_below p (a + 1 + n) ≡ count_below p (a + suc n) = ap (count_below p) (omega arith) in
@@ -31,3 +31,8 @@ module _ (p : ℕ → Bool) where
         | inl q ↦ let h = count_hit p a q in rw q (omega arith)
         | inr q ↦ let h = count_skip p a q in rw q (omega arith)
       ]
+
+  pub counted : (n : ℕ) → length (filter p (range_with_len 0 n)) ≡ count_below p n
+  counted n =
+      let e : count_below p (0 + n) ≡ count_below p n = ap (count_below p) (zero-add n) in
+      omega (arith, count_from 0 n)

@@ -5,7 +5,7 @@ ghost use Rattle.repeats.specs.Bitmaps.{bit, acknowledged, missed, nothing_heard
 
 use plan::{Grant, Numbers};
 
-// A coordinator's bitmap, with room for every plan.
+// A coordinator's bitmap, with room for every plan. There is no heap, and it is gathered and sent by value.
 pub type Bitmap = [u8; 32];
 
 // A group acknowledgment: octets of a bitmap, a whole one or a beacon's part, and the numbers that say whose each bit is.
@@ -24,6 +24,7 @@ pub fn no_bits() -> Bitmap
 
 // The bitmap with the grant's timeslots acknowledged, and every other bit as before.
 // Where nothing is acknowledged each grant's bits are alike, and marking keeps them so.
+// The bitmap is a coordinator's own, by value, so no GroupAcknowledgment, which borrows.
 pub fn marked(bitmap: Bitmap, numbers: Numbers, grant: Grant) -> Bitmap
     ensures answer { result ≡ marked_with numbers bitmap grant }
     ensures marks { Marks numbers bitmap grant result }
@@ -47,6 +48,7 @@ fn mark_timeslot(bitmap: &mut [u8], numbers: Numbers, t: u16)
         return;
     }
     let place = usize::from(t - last - 1);
+    // The contract of `get_mut` does not say what the slice ends as.
     if place / 8 < bitmap.len() {
         bitmap[place / 8] |= 1 << (place % 8);
     }
@@ -72,7 +74,9 @@ impl GroupAcknowledgment<'_> {
     fn bit_is_set(self, k: usize) -> bool
         ensures { result ≡ (bit self.entry.octets.now k == 1) }
     {
-        k / 8 < self.octets.len() && (self.octets[k / 8] >> (k % 8)) % 2 == 1
+        self.octets
+            .get(k / 8)
+            .is_some_and(|octet| (octet >> (k % 8)) % 2 == 1)
     }
 
     // Whether the octets are as many as the bitmap of a beacon has, with every padding bit zero.

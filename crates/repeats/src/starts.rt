@@ -7,7 +7,7 @@ use super::bitmap::GroupAcknowledgment;
 use frame::Direction;
 use plan::{Grant, Grants, Numbers, SlotPlan, grant_holding};
 
-// Whether a grant may repeat at all.
+// Whether a grant may repeat at all: the one place that names the direction.
 fn may_repeat(numbers: Numbers, grant: Grant) -> bool
     ensures { result ≡ may_repeat numbers grant }
 {
@@ -26,6 +26,7 @@ impl GroupAcknowledgment<'_> {
     fn zeros_before(self, t: u8) -> u8
         ensures { result ≡ zeros self.entry.numbers self.entry.octets.now t }
     {
+        // Fewer than t, so the cast keeps the count.
         (0..t).filter(|&earlier| self.is_missed(earlier)).count() as u8
     }
 
@@ -37,7 +38,7 @@ impl GroupAcknowledgment<'_> {
     }
 
     // The first timeslot of the grant's repeat, or none.
-    #[tactic(auto, unfolding(crate::specs::Starts::repeat_start))]
+    #[tactic(auto, using(crate::proofs::Counting::zeros_few), unfolding(crate::specs::Starts::repeat_start))]
     pub fn repeat_start(self, grant: Grant) -> Option<u8>
         ensures { result ≡ repeat_start self.entry.numbers self.entry.octets.now grant }
     {

@@ -1,11 +1,10 @@
-use Rattle.std.proofs.Common.{◌≡◌, ℕ, List, Option, sym, ap, ◌∙◌, subst, rules}
+use Rattle.std.proofs.Common.{◌≡◌, sym, ap, ◌∙◌, subst, rules}
 use Rattle.std.specs.Option.{option_map}
 use Rattle.plan.specs.declared.grant.Grant.{Grant}
 use Rattle.plan.specs.declared.grant.Numbers.{Numbers}
-use Rattle.plan.specs.Rules.{PlanMeaning, Rules}
 use Rattle.plan.specs.Answers.{first_grant}
 use Rattle.plan.proofs.Listing.{first_by_find}
-use Rattle.repeats.specs.Laws.{BitsAlike, NamesRepeater}
+use Rattle.repeats.specs.Laws.{NamesRepeater}
 use Rattle.repeats.specs.Starts.{repeat_start, starts_at, repeater_at}
 use Rattle.repeats.proofs.Serving.{within, in_order, apart, names_repeater}
 use Rattle.repeats.proofs.starts.repeater.Goals as goal

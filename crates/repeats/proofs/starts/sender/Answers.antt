@@ -1,9 +1,9 @@
-use Rattle.std.proofs.Common.{◌≡◌, ℕ, ◌<◌, ◌≤◌, Bool, true, false, List, Option, sym, ap, ◌∙◌, subst, arith}
+use Rattle.std.proofs.Common.{◌≡◌, ℕ, ◌<◌, ◌≤◌, List, Option, sym, ap, ◌∙◌, subst, arith}
 use Rattle.std.proofs.lemmas.Bool.{cond-true, cond-false, le-leb, lt-leb}
 use Rattle.plan.specs.declared.grant.Numbers.{Numbers}
 use Rattle.plan.specs.Rules.{PlanMeaning, Rules}
 use Rattle.repeats.specs.Laws.{BitsAlike, NamesSender}
-use Rattle.repeats.specs.Starts.{for_retransmission, repeater_at, beginner_at, sender_at}
+use Rattle.repeats.specs.Starts.{repeater_at, beginner_at, sender_at}
 use Rattle.repeats.proofs.Serving.{names_sender}
 use Rattle.repeats.proofs.starts.sender.Goals as goal
 

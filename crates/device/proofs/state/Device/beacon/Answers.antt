@@ -4,9 +4,9 @@ use Rattle.device.specs.Steps.{beacon_answer}
 use Rattle.device.proofs.Grounds.{grounded}
 use Rattle.device.proofs.state.Device.beacon.Goals as goal
 
-pub returns : goal.returns
-returns g c =
+pub returns-clause-grounds : goal.returns-clause-grounds
+returns-clause-grounds g c =
     let v = c.args.self.now in
     let xs = c.args.octets.now in
     let a : Ok c.told_by-fate.result ≡ beacon_answer v xs = search rules in
-    record { answer = a; state = search rules; grounds = grounded v (beacon_taken v.configuration xs) _ a }
+    grounded v (beacon_taken v.configuration xs) _ a

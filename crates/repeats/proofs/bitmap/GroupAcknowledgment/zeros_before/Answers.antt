@@ -1,17 +1,10 @@
-use Rattle.std.proofs.Common.{◌≡◌, ℕ, ◌+◌, Bool, length, zero-add, refl, ap, ◌∙◌, arith, rules}
-use Rattle.std.specs.List.{filter, range_with_len}
+use Rattle.std.proofs.Common.{refl, ◌∙◌, arith, rules}
 use Rattle.std.proofs.lemmas.Iterator.{YieldsList-from_range}
 use Rattle.std.proofs.lemmas.Iterator.Consumers.{YieldsList-at, YieldsList-from_filter, count_from_yields_List}
 use borrow.Author.Tests.{tests}
 use Rattle.repeats.specs.Bitmaps.{missed}
-use Rattle.repeats.specs.Starts.{count_below}
-use Rattle.repeats.proofs.Ranges.{count_from}
+use Rattle.repeats.proofs.Ranges.{counted}
 use Rattle.repeats.proofs.bitmap.GroupAcknowledgment.zeros_before.Goals as goal
-
-counted : (p : ℕ → Bool) (t : ℕ) → length (filter p (range_with_len 0 t)) ≡ count_below p t
-counted p t =
-    let e : count_below p (0 + t) ≡ count_below p t = ap (count_below p) (zero-add t) in
-    omega (arith, count_from p 0 t)
 
 pub returns : goal.returns
 returns c =
