@@ -103,7 +103,7 @@ impl Performer {
     }
 }
 
-// The octets that a call wrote into a buffer, which has room for the longest frame: a Vec for each of a hall's frames is slower.
+// The octets that a call wrote at the start of a buffer.
 pub fn first(octets: &[u8], count: usize) -> &[u8] {
     octets.get(..count).unwrap_or(octets)
 }
