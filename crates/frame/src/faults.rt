@@ -93,23 +93,12 @@ impl Refusal {
             layer: self.layer(),
         }
     }
-}
 
-// The number under which a refusal is answered.
-impl From<Refusal> for u8 {
-    ghost from_gives = { λ refusal number. number ≡ (listed refusal).number };
-
-    fn from(refusal: Refusal) -> u8 {
-        refusal as u8
-    }
-}
-
-// A refusal reads as its name. A derived Debug would write the same, but promises no text.
-impl fmt::Display for Refusal {
-    ghost output = { λ x. Some (listed x).name };
-
-    fn fmt<W: fmt::Write>(&self, f: &mut fmt::Formatter<W>) -> fmt::Result {
-        f.write_str(match self {
+    // The refusal's name. A derived Debug would write the same, but promises no text.
+    pub fn name(self) -> &'static str
+        ensures { result.now ≡ (listed self).name }
+    {
+        match self {
             Refusal::Plan => "Plan",
             Refusal::Superframe => "Superframe",
             Refusal::Mode => "Mode",
@@ -129,7 +118,39 @@ impl fmt::Display for Refusal {
             Refusal::Waiting => "Waiting",
             Refusal::Size => "Size",
             Refusal::Space => "Space",
-        })
+        }
+    }
+}
+
+impl Layer {
+    // The layer's name.
+    pub fn name(self) -> &'static str
+        ensures { result.now ≡ layer_name self }
+    {
+        match self {
+            Layer::Plan => "plan",
+            Layer::Frame => "frame",
+            Layer::Cargo => "cargo",
+            Layer::End => "end",
+        }
+    }
+}
+
+// The number under which a refusal is answered.
+impl From<Refusal> for u8 {
+    ghost from_gives = { λ refusal number. number ≡ (listed refusal).number };
+
+    fn from(refusal: Refusal) -> u8 {
+        refusal as u8
+    }
+}
+
+// A refusal reads as its name.
+impl fmt::Display for Refusal {
+    ghost output = { λ x. Some (listed x).name };
+
+    fn fmt<W: fmt::Write>(&self, f: &mut fmt::Formatter<W>) -> fmt::Result {
+        f.write_str(self.name())
     }
 }
 
@@ -138,12 +159,7 @@ impl fmt::Display for Layer {
     ghost output = { λ x. Some (layer_name x) };
 
     fn fmt<W: fmt::Write>(&self, f: &mut fmt::Formatter<W>) -> fmt::Result {
-        f.write_str(match self {
-            Layer::Plan => "plan",
-            Layer::Frame => "frame",
-            Layer::Cargo => "cargo",
-            Layer::End => "end",
-        })
+        f.write_str(self.name())
     }
 }
 
