@@ -1,6 +1,6 @@
 -- Inputs in octets: the image of a panel is the number of its inputs, and then the octets of the number that they are, lowest first.
-use Rattle.std.specs.Prelude.{◌≡◌, ℕ, zero, suc, ◌+◌, ◌*◌, ◌/◌, ◌%◌, ◌^◌, ◌<◌, ◌≤◌, Bool, false, List, ◌∷◌, length, get_or, take, drop, slice_index_or, refl}
-use Rattle.std.proofs.Common.{ap, ◌∙◌, one-add, arith}
+use Rattle.std.specs.Prelude.{◌≡◌, ℕ, zero, suc, ◌+◌, ◌-◌, ◌*◌, ◌/◌, ◌%◌, ◌^◌, ◌<◌, ◌≤◌, Bool, false, List, ◌∷◌, length, get_or, take, drop, slice_index_or, refl}
+use Rattle.std.proofs.Common.{sym, ap, ◌∙◌, pow-suc, one-add, arith, drop-cons}
 use Rattle.std.proofs.Math.Nat.{pow-succ', pow-le-pow_right}
 use Rattle.std.proofs.lemmas.Nat.{pow-add}
 use Rattle.std.proofs.lemmas.List.{get_or-take, get_or-drop, length-take, drop-drop}
@@ -78,6 +78,41 @@ fits_octets count n h =
     let room : 2 ^ count ≤ 2 ^ (8 * octets_for count) = pow-le-pow_right (omega arith) enough in
     rw (pow_octets (octets_for count)) (omega arith)
 
+-- one more octet below those of a number
+pub little_more : (w n o : ℕ) → o < 256 → little (suc w) (256 * n + o) ≡ o ∷ little w n
+little_more w n o h =
+    let low : (256 * n + o) % 256 ≡ o = omega arith in
+    let high : (256 * n + o) / 256 ≡ n = omega arith in
+    rw (low, high)
+
+-- a loop's step over octets, from the last one down: what it gives, and that it fits
+pub little_step : (xs : List ℕ) (j n : ℕ) → 0 < j → j ≤ length xs → octet xs (j - 1) < 256 → little (length xs - j) n ≡ drop j xs → little (length xs - (j - 1)) (256 * n + octet xs (j - 1)) ≡ drop (j - 1) xs
+little_step xs j n some within small e =
+    let i = j - 1 in
+    let here : i < length xs = omega arith in
+    let left : length xs - i ≡ suc (length xs - j) = omega arith in
+    let next : suc i ≡ j = omega arith in
+    rw left (little_more (length xs - j) n (octet xs i) small ∙ ap (λ (l : List ℕ). octet xs i ∷ l) (e ∙ ap (λ (m : ℕ). drop m xs) (sym next)) ∙ sym (drop-cons xs i 0 here))
+
+pub below_step : (l j n o : ℕ) → 0 < j → j ≤ l → o < 256 → n < 256 ^ (l - j) → 256 * n + o < 256 ^ (l - (j - 1))
+below_step l j n o some within small h =
+    let left : l - (j - 1) ≡ suc (l - j) = omega arith in
+    rw (left, pow-suc 256 (l - j)) (omega arith)
+
+pub below_seven : (l j n : ℕ) → 0 < j → l ≤ 8 → n < 256 ^ (l - j) → n < 2 ^ 56
+below_seven l j n some most h =
+    let few : l - j ≤ 7 = omega arith in
+    let room : 256 ^ (l - j) ≤ 256 ^ 7 = pow-le-pow_right (omega arith) few in
+    omega arith
+
 -- an image has at most nine octets
 pub image_length : (inputs : List Bool) → length (panel_image inputs) ≡ 1 + octets_for (length inputs)
 image_length inputs = (laid_out inputs).size
+
+-- the image is the start of the count and eight octets
+pub image_start : (count n m : ℕ) → count ≤ 64 → n < 2 ^ count → m ≡ length (panel_image (inputs_in count n)) → take m (count ∷ little 8 n) ≡ panel_image (inputs_in count n)
+image_start count n m few h e =
+    let w = octets_for count in
+    let l : length (panel_image (inputs_in count n)) ≡ suc w = image_length (inputs_in count n) ∙ ap (λ (k : ℕ). 1 + octets_for k) (length_inputs_in count n) ∙ one-add w in
+    let k : m ≡ suc w = e ∙ l in
+    rw k (ap (λ (l : List ℕ). count ∷ l) (take-little w 8 n (omega arith)) ∙ sym (image_little count n h))
