@@ -18,7 +18,7 @@ pub(crate) fn octet_of(first: u8, second: u8) -> Option<u8>
     Some(16 * high + low)
 }
 
-// The lower-case digit for a number below sixteen.
+// The lower-case digit for a number below sixteen: a byte, where char::from_digit would give an Option of a char.
 fn digit_for(value: u8) -> u8
     requires { value < 16 }
     ensures { result ≡ digit_code value }

@@ -26,6 +26,7 @@ enum Progress {
 }
 
 // One line of text, as far as it was read. Of its octets it keeps the first 126.
+// The text is no model of it, so each contract says it of every text: the fields of two comments are alike.
 #[derive(Drop)]
 pub struct HexLine {
     progress: Progress,
