@@ -6,7 +6,7 @@ ghost use Rattle.frame.specs.Laws.{WrittenBack};
 ghost use Rattle.frame.specs.Messages.{online, discover_response, configuration_status, configuration_request};
 ghost use Rattle.frame.specs.Octets.{bits, octet};
 ghost use Rattle.frame.specs.Refusals.{fault};
-ghost use Rattle.frame.specs.Views.{piece, seen, announced};
+ghost use Rattle.frame.specs.Views.{piece, told, seen, told_command, announced};
 
 use crate::codes::{Identifier, LLDN, State, Subtype};
 use crate::faults::{Fault, Refusal};
@@ -111,20 +111,26 @@ fn wish(octets: &[u8], from: usize) -> Result<Wish, Fault>
     })
 }
 
+// A command with the parts that it lends.
+fn command_frame(octets: &[u8], command: Command) -> Frame<'_>
+    requires { 2 ≤ length octets.now }
+    ensures { told result ≡ told_command octets.now command }
+{
+    Frame::Command {
+        control: part(octets, 0, 1),
+        parameters: part_from(octets, 2),
+        command,
+    }
+}
+
 fn read_discover_response(octets: &[u8]) -> Result<Frame<'_>, Fault>
     ensures { seen result ≡ reading_as (command discover_response) octets.now }
 {
     at_least(octets, 12)?;
     let wish = wish(octets, 10)?;
     at_most(octets.len(), 12)?;
-    Ok(Frame::Command {
-        control: part(octets, 0, 1),
-        parameters: part_from(octets, 2),
-        command: Command::DiscoverResponse {
-            address: address(octets),
-            wish,
-        },
-    })
+    let address = address(octets);
+    Ok(command_frame(octets, Command::DiscoverResponse { address, wish }))
 }
 
 fn read_configuration_status(octets: &[u8]) -> Result<Frame<'_>, Fault>
@@ -133,17 +139,14 @@ fn read_configuration_status(octets: &[u8]) -> Result<Frame<'_>, Fault>
     at_least(octets, 15)?;
     let wish = wish(octets, 11)?;
     at_most(octets.len(), 15)?;
-    Ok(Frame::Command {
-        control: part(octets, 0, 1),
-        parameters: part_from(octets, 2),
-        command: Command::ConfigurationStatus {
-            address: address(octets),
-            simple: octets[10],
-            wish,
-            first: octets[13],
-            width: octets[14],
-        },
-    })
+    let status = Command::ConfigurationStatus {
+        address: address(octets),
+        simple: octets[10],
+        wish,
+        first: octets[13],
+        width: octets[14],
+    };
+    Ok(command_frame(octets, status))
 }
 
 fn read_configuration_request(octets: &[u8]) -> Result<Frame<'_>, Fault>
@@ -151,24 +154,25 @@ fn read_configuration_request(octets: &[u8]) -> Result<Frame<'_>, Fault>
 {
     at_least(octets, 20)?;
     at_most(octets.len(), 20)?;
-    Ok(Frame::Command {
-        control: part(octets, 0, 1),
-        parameters: part_from(octets, 2),
-        command: Command::ConfigurationRequest {
-            address: address(octets),
-            configuration: Configuration {
-                simple: octets[10],
-                channel: octets[11],
-                size: octets[13],
-                first: octets[14],
-                width: octets[15],
-                retransmission: octets[16],
-                uplink: octets[17],
-                timeslots: octets[18],
-                coordinator: octets[19],
-            },
+    let configuration = Configuration {
+        simple: octets[10],
+        channel: octets[11],
+        size: octets[13],
+        first: octets[14],
+        width: octets[15],
+        retransmission: octets[16],
+        uplink: octets[17],
+        timeslots: octets[18],
+        coordinator: octets[19],
+    };
+    let address = address(octets);
+    Ok(command_frame(
+        octets,
+        Command::ConfigurationRequest {
+            address,
+            configuration,
         },
-    })
+    ))
 }
 
 fn read_command(octets: &[u8]) -> Result<Frame<'_>, Fault>
