@@ -260,10 +260,7 @@ pub fn read(octets: &[u8]) -> Result<Frame<'_>, Fault>
     ensures written_back { WrittenBack octets.now (seen result) }
     ensures told_by_start { seen result ≡ reading (take 126 octets.now) }
 {
-    if octets.is_empty() {
-        return Err(Refusal::Empty.at(0));
-    }
-    let control = octets[0];
+    let control = *octets.first().ok_or(Refusal::Empty.at(0))?;
     if bits_of(control, 0, 3) != LLDN {
         return Err(Refusal::Foreign.at(0));
     }

@@ -1,8 +1,7 @@
 // Writing a frame into a lent buffer.
-ghost use Rattle.std.specs.Prelude.{◌≡◌, ◌+◌, ◌^◌, ◌<◌, ◌≤◌, [], ◌∷◌, ◌++◌, length};
+ghost use Rattle.std.specs.Prelude.{◌≡◌, ◌+◌, ◌^◌, ◌<◌, ◌≤◌, [], ◌∷◌, length};
 ghost use Rattle.frame.specs.Codes.{state_for, order_for};
 ghost use Rattle.frame.specs.Messages.{online_beacon, management_beacon, reset_beacon, data_frame, acknowledgment_frame, command_frame, beacon_octets, command_octets};
-ghost use Rattle.frame.specs.Octets.{little};
 ghost use Rattle.frame.specs.Widths.{width_of};
 ghost use Rattle.frame.specs.Writing.{joined, fitting, left_by, Written};
 
@@ -18,6 +17,7 @@ fn fit(parts: &[&[u8]], buffer: &[u8]) -> Result<usize, Fault>
     ensures { result ≡ fitting (joined parts.now) buffer.now }
 {
     let mut left = buffer.len();
+    // A `for`: by `try_fold` and `map` neither the last subtraction nor the answer was proved.
     for part in parts {
         left = left.checked_sub(part.len()).ok_or(Refusal::Space.at(0))?;
     }
