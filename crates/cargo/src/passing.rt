@@ -1,8 +1,8 @@
 // What holds of every kind of cargo.
-ghost use Rattle.std.specs.Prelude.{◌≡◌, ◌≤◌, length};
+ghost use Rattle.std.specs.Prelude.{◌≡◌};
 ghost use Rattle.frame.specs.Views.{told};
 ghost use Rattle.frame.specs.Writing.{fitting, left_by};
-ghost use Rattle.cargo.specs.Images.{Apart, ReadsStart};
+ghost use Rattle.cargo.specs.Images.{Apart};
 ghost use Rattle.cargo.specs.Passing.{Delivers, Receives, Delivered, returning};
 
 use crate::kinds::Cargo;
@@ -27,14 +27,6 @@ pub fn receive<C: Cargo>(octets: &[u8]) -> Result<C, Fault>
     cargo_in(frame::read(octets)?)
 }
 
-// Reads the first octets of a buffer.
-fn read_start<C: Cargo>(buffer: &[u8], count: usize) -> Result<C, Fault>
-    requires { count ≤ length buffer.now }
-    ensures { ReadsStart C.image count buffer.now result }
-{
-    C::read(&buffer[..count])
-}
-
 // Writes cargo into the buffer and reads it back: the same value, if the buffer has room for the image.
 // `apart` says that two values with one image are equal.
 pub fn write_and_read<C: Cargo>(cargo: &C, buffer: &mut [u8]) -> Result<C, Fault>
@@ -43,5 +35,5 @@ pub fn write_and_read<C: Cargo>(cargo: &C, buffer: &mut [u8]) -> Result<C, Fault
     ensures apart { Apart C.image }
 {
     let written = cargo.write(buffer)?;
-    read_start(buffer, written)
+    C::read(&buffer[..written])
 }

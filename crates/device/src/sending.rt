@@ -46,6 +46,7 @@ impl<C: Cargo + Drop> Device<C> {
         Ok(written)
     }
 
+    // What the two sends have in common is `write_cargo`; to take the rest as closures would be no plainer.
     // Sends the repeat that is due from a timeslot on.
     fn send_repeat(&mut self, timeslot: u8, buffer: &mut [u8]) -> Result<usize, Fault>
         ensures answer { result ≡ turn_answer C.image (again_turn timeslot self.old.repeat) buffer.old }

@@ -4,10 +4,11 @@ use Rattle.frame.specs.declared.faults.Fault.{Fault}
 use Rattle.frame.specs.declared.frames.BeaconHeader.{BeaconHeader}
 use Rattle.frame.specs.declared.frames.BeaconState.{BeaconState}
 use Rattle.frame.specs.declared.frames.BeaconState.TheVariants as state
+use Rattle.frame.specs.declared.frames.Command.{Command}
 use Rattle.frame.specs.declared.frames.Frame.{Frame}
 use Rattle.frame.specs.declared.frames.Frame.TheVariants as frame
 use Rattle.frame.specs.declared.frames.Part.{Part}
-use Rattle.frame.specs.Formats.{Piece, cut, header_in, Told}
+use Rattle.frame.specs.Formats.{Piece, cut, rest, header_in, Told}
 use Rattle.frame.specs.Messages.{Message, online_beacon, discovery_beacon, configuration_beacon, reset_beacon, data_frame, acknowledgment_frame, command_frame}
 
 abbrev pub piece : Part → Piece
@@ -34,6 +35,10 @@ told (frame.Command control parameters c) = record { message = command_frame c; 
 abbrev pub seen : Result Frame Fault → Result Told Fault
 seen (Ok f) = Ok (told f)
 seen (Err f) = Err f
+
+-- what octets read as that hold a command
+abbrev pub told_command : List ℕ → Command → Told
+told_command xs c = record { message = command_frame c; lent = cut 0 1 xs ∷ rest 2 xs ∷ [] }
 
 -- what a beacon reads as that announces a state
 abbrev pub announced : List ℕ → Result BeaconState Fault → Result Told Fault

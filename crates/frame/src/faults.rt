@@ -123,7 +123,7 @@ impl Refusal {
 }
 
 impl Layer {
-    // The layer's name.
+    // The layer's name, in small letters, as no derive writes it.
     pub fn name(self) -> &'static str
         ensures { result.now ≡ layer_name self }
     {

@@ -6,7 +6,7 @@ ghost use Rattle.frame.specs.Laws.{WrittenBack};
 ghost use Rattle.frame.specs.Messages.{online, discover_response, configuration_status, configuration_request};
 ghost use Rattle.frame.specs.Octets.{bits, octet};
 ghost use Rattle.frame.specs.Refusals.{fault};
-ghost use Rattle.frame.specs.Views.{piece, seen, announced};
+ghost use Rattle.frame.specs.Views.{piece, told, seen, told_command, announced};
 
 use crate::codes::{Identifier, LLDN, State, Subtype};
 use crate::faults::{Fault, Refusal};
@@ -35,7 +35,7 @@ fn part(octets: &[u8], from: usize, to: usize) -> Part<'_>
     }
 }
 
-// The part from an index to the end.
+// The part from an index to the end. No caller would say its end more plainly by `part`.
 fn part_from(octets: &[u8], from: usize) -> Part<'_>
     requires { from ≤ length octets.now }
     ensures { piece result ≡ rest from octets.now }
@@ -56,11 +56,11 @@ fn at_least(octets: &[u8], least: usize) -> Result<(), Fault>
     Ok(())
 }
 
-// Refuses octets that are more than `most`.
-fn at_most(octets: &[u8], most: usize) -> Result<(), Fault>
-    ensures { result ≡ (if nat_lt most (length octets.now) then Err (fault Surplus most) else Ok tt) }
+// Refuses a length above `most`.
+pub(crate) fn at_most(length: usize, most: usize) -> Result<(), Fault>
+    ensures { result ≡ (if nat_lt most length then Err (fault Surplus most) else Ok tt) }
 {
-    if octets.len() > most {
+    if length > most {
         return Err(Refusal::Surplus.at(most));
     }
     Ok(())
@@ -70,7 +70,7 @@ fn read_data(octets: &[u8]) -> Result<Frame<'_>, Fault>
     requires { 0 < length octets.now }
     ensures { seen result ≡ reading_as payload octets.now }
 {
-    at_most(octets, 125)?;
+    at_most(octets.len(), 125)?;
     Ok(Frame::Data {
         control: part(octets, 0, 1),
         payload: part_from(octets, 1),
@@ -82,7 +82,7 @@ fn read_acknowledgment(octets: &[u8]) -> Result<Frame<'_>, Fault>
 {
     at_least(octets, 2)?;
     let acknowledged = Acknowledged::try_from(octets[1]).map_err(|refusal| refusal.at(1))?;
-    at_most(octets, 2)?;
+    at_most(octets.len(), 2)?;
     Ok(Frame::Acknowledgment {
         control: part(octets, 0, 1),
         acknowledged,
@@ -94,9 +94,9 @@ fn address(octets: &[u8]) -> u64
     requires { 10 ≤ length octets.now }
     ensures { result ≡ address_in octets.now }
 {
-    u64::from_le_bytes([
-        octets[2], octets[3], octets[4], octets[5], octets[6], octets[7], octets[8], octets[9],
-    ])
+    let mut eight = [0; 8];
+    eight.copy_from_slice(&octets[2..10]);
+    u64::from_le_bytes(eight)
 }
 
 // The wish whose width stands at an index and whose direction stands at the next one.
@@ -111,20 +111,26 @@ fn wish(octets: &[u8], from: usize) -> Result<Wish, Fault>
     })
 }
 
+// A command with the parts that it lends.
+fn command_frame(octets: &[u8], command: Command) -> Frame<'_>
+    requires { 2 ≤ length octets.now }
+    ensures { told result ≡ told_command octets.now command }
+{
+    Frame::Command {
+        control: part(octets, 0, 1),
+        parameters: part_from(octets, 2),
+        command,
+    }
+}
+
 fn read_discover_response(octets: &[u8]) -> Result<Frame<'_>, Fault>
     ensures { seen result ≡ reading_as (command discover_response) octets.now }
 {
     at_least(octets, 12)?;
     let wish = wish(octets, 10)?;
-    at_most(octets, 12)?;
-    Ok(Frame::Command {
-        control: part(octets, 0, 1),
-        parameters: part_from(octets, 2),
-        command: Command::DiscoverResponse {
-            address: address(octets),
-            wish,
-        },
-    })
+    at_most(octets.len(), 12)?;
+    let address = address(octets);
+    Ok(command_frame(octets, Command::DiscoverResponse { address, wish }))
 }
 
 fn read_configuration_status(octets: &[u8]) -> Result<Frame<'_>, Fault>
@@ -132,43 +138,41 @@ fn read_configuration_status(octets: &[u8]) -> Result<Frame<'_>, Fault>
 {
     at_least(octets, 15)?;
     let wish = wish(octets, 11)?;
-    at_most(octets, 15)?;
-    Ok(Frame::Command {
-        control: part(octets, 0, 1),
-        parameters: part_from(octets, 2),
-        command: Command::ConfigurationStatus {
-            address: address(octets),
-            simple: octets[10],
-            wish,
-            first: octets[13],
-            width: octets[14],
-        },
-    })
+    at_most(octets.len(), 15)?;
+    let status = Command::ConfigurationStatus {
+        address: address(octets),
+        simple: octets[10],
+        wish,
+        first: octets[13],
+        width: octets[14],
+    };
+    Ok(command_frame(octets, status))
 }
 
 fn read_configuration_request(octets: &[u8]) -> Result<Frame<'_>, Fault>
     ensures { seen result ≡ reading_as (command configuration_request) octets.now }
 {
     at_least(octets, 20)?;
-    at_most(octets, 20)?;
-    Ok(Frame::Command {
-        control: part(octets, 0, 1),
-        parameters: part_from(octets, 2),
-        command: Command::ConfigurationRequest {
-            address: address(octets),
-            configuration: Configuration {
-                simple: octets[10],
-                channel: octets[11],
-                size: octets[13],
-                first: octets[14],
-                width: octets[15],
-                retransmission: octets[16],
-                uplink: octets[17],
-                timeslots: octets[18],
-                coordinator: octets[19],
-            },
+    at_most(octets.len(), 20)?;
+    let configuration = Configuration {
+        simple: octets[10],
+        channel: octets[11],
+        size: octets[13],
+        first: octets[14],
+        width: octets[15],
+        retransmission: octets[16],
+        uplink: octets[17],
+        timeslots: octets[18],
+        coordinator: octets[19],
+    };
+    let address = address(octets);
+    Ok(command_frame(
+        octets,
+        Command::ConfigurationRequest {
+            address,
+            configuration,
         },
-    })
+    ))
 }
 
 fn read_command(octets: &[u8]) -> Result<Frame<'_>, Fault>
@@ -202,7 +206,7 @@ fn state(octets: &[u8]) -> Result<BeaconState<'_>, Fault>
         State::Configuration => BeaconState::Configuration { management },
         State::Reset => BeaconState::Reset,
     };
-    at_most(octets, 5)?;
+    at_most(octets.len(), 5)?;
     Ok(announced)
 }
 
@@ -211,7 +215,7 @@ fn read_online(octets: &[u8]) -> Result<BeaconState<'_>, Fault>
     requires { 6 ≤ length octets.now }
     ensures { announced octets.now result ≡ unless_surplus (beacon online) octets.now (Ok (beacon_said online octets.now)) }
 {
-    at_most(octets, 38)?;
+    at_most(octets.len(), 38)?;
     Ok(BeaconState::Online {
         timeslots: octets[5],
         bitmap: part_from(octets, 6),
@@ -256,10 +260,7 @@ pub fn read(octets: &[u8]) -> Result<Frame<'_>, Fault>
     ensures written_back { WrittenBack octets.now (seen result) }
     ensures told_by_start { seen result ≡ reading (take 126 octets.now) }
 {
-    if octets.is_empty() {
-        return Err(Refusal::Empty.at(0));
-    }
-    let control = octets[0];
+    let control = *octets.first().ok_or(Refusal::Empty.at(0))?;
     if bits_of(control, 0, 3) != LLDN {
         return Err(Refusal::Foreign.at(0));
     }

@@ -1,8 +1,7 @@
 // Writing a frame into a lent buffer.
-ghost use Rattle.std.specs.Prelude.{◌≡◌, ◌+◌, ◌^◌, ◌<◌, ◌≤◌, [], ◌∷◌, ◌++◌, length};
+ghost use Rattle.std.specs.Prelude.{◌≡◌, ◌+◌, ◌^◌, ◌<◌, ◌≤◌, [], ◌∷◌, length};
 ghost use Rattle.frame.specs.Codes.{state_for, order_for};
 ghost use Rattle.frame.specs.Messages.{online_beacon, management_beacon, reset_beacon, data_frame, acknowledgment_frame, command_frame, beacon_octets, command_octets};
-ghost use Rattle.frame.specs.Octets.{little};
 ghost use Rattle.frame.specs.Widths.{width_of};
 ghost use Rattle.frame.specs.Writing.{joined, fitting, left_by, Written};
 
@@ -10,6 +9,7 @@ use crate::codes::{Identifier, State, Subtype};
 use crate::faults::{Fault, Refusal};
 use crate::frames::{Acknowledged, BeaconHeader, Command, Configuration, ManagementState};
 use crate::management::ManagementWidth;
+use crate::reading::at_most;
 
 // The length of octets in parts, if the buffer has room for all of them.
 #[tactic(auto, using(crate::proofs::Parts::part_within))]
@@ -17,6 +17,7 @@ fn fit(parts: &[&[u8]], buffer: &[u8]) -> Result<usize, Fault>
     ensures { result ≡ fitting (joined parts.now) buffer.now }
 {
     let mut left = buffer.len();
+    // A `for`: by `try_fold` and `map` neither the last subtraction nor the answer was proved.
     for part in parts {
         left = left.checked_sub(part.len()).ok_or(Refusal::Space.at(0))?;
     }
@@ -30,6 +31,7 @@ pub fn put(parts: &[&[u8]], buffer: &mut [u8]) -> Result<usize, Fault>
     ensures memory { buffer.new ≡ left_by result (joined parts.now) buffer.old }
 {
     let length = fit(parts, buffer)?;
+    // Where the next part begins: no index of a list, but the parts' lengths so far.
     let mut at = 0;
     for part in parts {
         buffer[at..at + part.len()].copy_from_slice(part);
@@ -40,8 +42,7 @@ pub fn put(parts: &[&[u8]], buffer: &mut [u8]) -> Result<usize, Fault>
 
 // The header is what a beacon says and the buffer where it goes: a struct of both, made for each call, would be no plainer.
 
-// Writes an Online beacon; a bitmap has at most 32 octets. A longer one is refused at the frame's end: no plainer by the reader's `at_most`, whose place is the
-// length that it tests.
+// Writes an Online beacon; a bitmap has at most 32 octets.
 pub fn write_online_beacon(
     header: BeaconHeader,
     timeslots: u8,
@@ -50,9 +51,7 @@ pub fn write_online_beacon(
 ) -> Result<usize, Fault>
     ensures { Written (online_beacon header timeslots bitmap.now) buffer.old result buffer.new }
 {
-    if bitmap.len() > 32 {
-        return Err(Refusal::Surplus.at(38));
-    }
+    at_most(6 + bitmap.len(), 38)?;
     put(
         &[&beacon_head(header, State::Online, 0), &[timeslots], bitmap],
         buffer,
@@ -95,14 +94,12 @@ fn beacon_head(header: BeaconHeader, state: State, management: u8) -> [u8; 5]
     ]
 }
 
-// Writes a data frame; a payload has at most 124 octets. A longer one is refused as a longer bitmap is.
+// Writes a data frame; a payload has at most 124 octets.
 #[tactic(auto, using(crate::proofs::Returns::written))]
 pub fn write_data(payload: &[u8], buffer: &mut [u8]) -> Result<usize, Fault>
     ensures { Written (data_frame payload.now) buffer.old result buffer.new }
 {
-    if payload.len() > 124 {
-        return Err(Refusal::Surplus.at(125));
-    }
+    at_most(1 + payload.len(), 125)?;
     put(&[&[Subtype::Data.control()], payload], buffer)
 }
 

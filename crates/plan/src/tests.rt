@@ -47,10 +47,10 @@ const fn from_sixteen(count: usize) -> EvenGrants {
 
 // The place at which a list is refused.
 fn refused_at(rt: HostRuntime, numbers: Numbers, grants: [Grant; 6]) -> Result<usize, Fail> {
-    match ListedPlan::new(numbers, grants.to_vec(rt.alloc())?) {
-        Ok(_) => Err(Fail::new("not refused")),
-        Err(fault) => Ok(fault.place),
-    }
+    ListedPlan::new(numbers, grants.to_vec(rt.alloc())?)
+        .err()
+        .map(|fault| fault.place)
+        .ok_or_else(|| Fail::new("not refused"))
 }
 
 #[test]
@@ -94,7 +94,7 @@ fn an_even_plan_is_like_the_list(rt: HostRuntime) -> Result<(), Fail> {
     let listed = ListedPlan::new(NUMBERS, six().to_vec(rt.alloc())?)?;
     let even = EvenPlan::new(NUMBERS, from_sixteen(6))?;
     for k in 0..10 {
-        assert!(rt; answer_alike(&listed, &even, k, k as u8));
+        assert!(rt; answer_alike(&listed, &even, usize::from(k), k));
     }
     assert_eq!(rt;
         EvenPlan::new(NUMBERS, from_sixteen(7)).err(),

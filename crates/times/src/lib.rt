@@ -1,7 +1,7 @@
 // Slot times of the low latency mode (LLDN) of IEEE 802.15.4, in symbols of 16 microseconds.
 #![tactic(auto)]
 
-ghost use Rattle.std.specs.Prelude.{◌≡◌, ◌≤◌, [], ◌∷◌, map};
+ghost use Rattle.std.specs.Prelude.{◌≡◌, [], ◌∷◌, map};
 ghost use Rattle.plan.specs.Rules.{grant_at};
 ghost use Rattle.times.specs.Symbols.{frame_symbols, timeslot_symbols, beacon_symbols, span_of, slot_span, grant_span, superframe_symbols, microseconds, sixteen_of_two};
 ghost use Rattle.times.specs.Laws.{FollowEachOther, FullFramesEndInside, EndsWithLastTimeslot};
@@ -40,7 +40,7 @@ pub fn slot_time<P: SlotPlan>(plan: &P, t: u8) -> Result<(u32, u32), Fault>
 {
     let numbers = plan.numbers();
     if t == 0 || t > numbers.timeslots {
-        return Err(Refusal::Timeslot.at(t as usize));
+        return Err(Refusal::Timeslot.at(usize::from(t)));
     }
     Ok(span(numbers, t, 1))
 }

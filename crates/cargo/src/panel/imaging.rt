@@ -1,5 +1,5 @@
 // Panels and their images.
-ghost use Rattle.std.specs.Prelude.{◌≡◌, ℕ, ◌+◌, ◌^◌, ◌<◌, ◌≤◌, ◌∷◌, length, take, MatchOption, nat_lt};
+ghost use Rattle.std.specs.Prelude.{◌≡◌, ◌+◌, ◌^◌, ◌<◌, ◌≤◌, length, MatchOption, nat_lt};
 ghost use Rattle.frame.specs.Octets.{value};
 ghost use Rattle.frame.specs.Writing.{fitting, left_by};
 ghost use Rattle.cargo.specs.Inputs.{octets_for, LaidOut};
@@ -46,6 +46,7 @@ fn panel_in(image: &[u8]) -> Option<Panel>
         return None;
     }
     let inputs = number_in(octets);
+    // Not `then`, as where a panel is made of inputs.
     if !has_bits(inputs, count) {
         return None;
     }

@@ -11,6 +11,7 @@ impl fmt::Display for Panel {
 
     fn fmt<W: fmt::Write>(&self, f: &mut fmt::Formatter<W>) -> fmt::Result {
         f.write_str("panel ")?;
+        // There is no list to go over: an input is a bit.
         for k in 0..self.count {
             f.write_str(if self.is_on(k) { "1" } else { "0" })?;
         }

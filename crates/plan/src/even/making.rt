@@ -22,6 +22,7 @@ impl EvenPlan {
         if !numbers.keep() || grants.count > 128 {
             return Err(Refusal::Plan.at(0));
         }
+        // A match, since a value is what is refused here and none is what is made.
         match grants.first_to_break(numbers) {
             Some(i) => Err(Refusal::Plan.at(i)),
             None => Ok(EvenPlan { numbers, grants }),

@@ -1,27 +1,16 @@
 -- One byte more leads from one place to the next.
 use Rattle.std.proofs.Common.{◌≡◌, ℕ, List, [], ◌∷◌, ◌++◌, take, sym, ap, ◌∙◌, subst, inl, inr}
 use Rattle.hexadecimal.specs.declared.line.Progress.{Progress}
-use Rattle.hexadecimal.specs.declared.line.Progress.TheVariants.{Comment, Half, LoneReturn, WholeReturn, Broken}
+use Rattle.hexadecimal.specs.declared.line.Progress.TheVariants.{Half, LoneReturn, WholeReturn, Broken}
 use Rattle.hexadecimal.specs.declared.line.HexLine.{HexLine}
 use Rattle.hexadecimal.specs.Reading.{Read, Stands}
-use Rattle.hexadecimal.proofs.Going.{octet_on, half_broken, lone_broken, whole_broken, still_broken, still_comment}
+use Rattle.hexadecimal.proofs.Going.{octet_on, half_broken, lone_broken, whole_broken, still_broken}
 use Rattle.hexadecimal.proofs.Keeping.{take_again}
 use Rattle.hexadecimal.proofs.line.HexLine.push.Goals as goal
 
 -- what was read, by the place
 at : (line : HexLine) (text : List ℕ) (h : Read line text) (place : Progress) → line.progress ≡ place → Stands place text h.spelled
 at line text h place e = subst (λ p. Stands p text h.spelled) e h.stands
-
-pub returns-in-Comment : goal.returns-in-Comment
-returns-in-Comment c t h =
-    let line = c.args.self.now in
-    let byte = c.args.byte in
-    let e = c.in-Comment.is in
-    record {
-      spelled = h.spelled;
-      stands = subst (λ p. Stands p (t ++ byte ∷ []) h.spelled) (sym e) (still_comment t h.spelled byte (at line t h Comment e));
-      keeps = h.keeps;
-    }
 
 pub returns-in-Some : goal.returns-in-Some
 returns-in-Some c t h =
