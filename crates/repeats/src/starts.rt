@@ -51,6 +51,7 @@ impl GroupAcknowledgment<'_> {
 }
 
 // The number of the grant whose repeat starts at timeslot t, or none.
+// The plan and t stand as two in this and the two below: a struct of both would be made for one call, and name nothing of the field.
 pub fn repeater<P: SlotPlan>(plan: &P, octets: &[u8], t: u8) -> Option<usize>
     ensures answer { result ≡ repeater_at (P.SlotPlan.meaning plan.now) octets.now t }
     ensures names { BitsAlike (P.SlotPlan.meaning plan.now) octets.now → NamesRepeater (P.SlotPlan.meaning plan.now) octets.now t result }

@@ -19,7 +19,7 @@ fn eight(retransmission: u8) -> Numbers {
 
 fn grant(first: u8, width: u8) -> Grant {
     Grant {
-        address: 100 + first as u64,
+        address: 100 + u64::from(first),
         simple: first,
         first,
         width,
