@@ -6,7 +6,7 @@ use super::state::{Inner, Mode, Record};
 use repeats::no_bits;
 
 impl Inner {
-    // The state of a coordinator that is new.
+    // The state of a coordinator that is new. Each field stands where the definition `made` has it: derived defaults would tell less.
     pub(crate) fn new() -> Inner
         ensures { result ≡ made }
     {

@@ -16,14 +16,12 @@ impl<C: Cargo + Drop> Device<C> {
     fn told_by(&self, beacon: Beacon<'_>) -> Option<Fate>
         ensures { result ≡ told_by self.now.address self.now.configuration self.now.sent (heard beacon.entry) }
     {
-        if self.sent.is_none() {
-            return None;
-        }
-        // By `map_or` with a closure, which would borrow the beacon, the answer was not proved.
-        match self.member() {
-            Some(member) => Some(member.fate_by(beacon)),
-            None => Some(Fate::Unknown),
-        }
+        self.sent.as_ref()?;
+        // By `map_or`, with a closure that moves the beacon or borrows it, the fate was not proved.
+        Some(match self.member() {
+            Some(member) => member.fate_by(beacon),
+            None => Fate::Unknown,
+        })
     }
 
     // Goes on as a beacon says.
@@ -31,6 +29,7 @@ impl<C: Cargo + Drop> Device<C> {
         ensures { self.new ≡ informed self.old (heard beacon.entry) }
     {
         let configured = self.configuration.is_some();
+        // By `zip` and `and_then` the repeat was not proved.
         self.repeat = match (self.member(), self.sent.take()) {
             (Some(member), Some(cargo)) => to_repeat(member.repeat_by(beacon), cargo),
             _ => None,

@@ -2,14 +2,15 @@
 ghost use Rattle.std.specs.Prelude.{◌≡◌};
 ghost use Rattle.device.specs.Fates.{by_room, repeat_by, fate_by};
 ghost use Rattle.device.specs.Steps.{to_repeat, news_of};
-ghost use Rattle.device.specs.Views.{heard};
+ghost use Rattle.device.specs.Views.{heard, bits_seen, bits_by};
 
 use crate::hearing::Beacon;
 use crate::rules::{Member, acknowledgment_in};
 use crate::state::{Fate, News, Repeat};
 use frame::BeaconState;
+use repeats::GroupAcknowledgment;
 
-// What a beacon tells of its superframe.
+// What a beacon tells of its superframe. A From for its one caller would be no plainer.
 pub(crate) fn news_of(beacon: Beacon<'_>) -> News
     ensures { result ≡ news_of (heard beacon.entry) }
 {
@@ -23,10 +24,7 @@ pub(crate) fn news_of(beacon: Beacon<'_>) -> News
 fn by_room(start: Option<u8>) -> Fate
     ensures { result ≡ by_room start }
 {
-    match start {
-        Some(_) => Fate::Repeated,
-        None => Fate::Lost,
-    }
+    start.map_or(Fate::Lost, |_| Fate::Repeated)
 }
 
 // Cargo to be repeated from a timeslot on, or let go. By `zip` and `map` in its one caller it was not proved.
@@ -37,33 +35,36 @@ pub(crate) fn to_repeat<C: Drop>(start: Option<u8>, cargo: C) -> Option<Repeat<C
 }
 
 impl Member {
+    // The group acknowledgment of a beacon, which only an Online one has.
+    fn acknowledgment(self, beacon: Beacon<'_>) -> Option<GroupAcknowledgment<'_>>
+        ensures { bits_seen result ≡ bits_by self.configuration (heard beacon.entry) }
+    {
+        match beacon.state {
+            BeaconState::Online { bitmap, .. } => {
+                Some(acknowledgment_in(self.configuration, bitmap.octets))
+            }
+            _ => None,
+        }
+    }
+
     // The first timeslot of the repeat that a beacon gives, or none.
     pub(crate) fn repeat_by(self, beacon: Beacon<'_>) -> Option<u8>
         ensures { result ≡ repeat_by self.address self.configuration (heard beacon.entry) }
     {
-        match beacon.state {
-            BeaconState::Online { bitmap, .. } => {
-                acknowledgment_in(self.configuration, bitmap.octets).repeat_start(self.grant())
-            }
-            _ => None,
-        }
+        self.acknowledgment(beacon)?.repeat_start(self.grant())
     }
 
     // The fate of cargo that was sent in the superframe before.
     pub(crate) fn fate_by(self, beacon: Beacon<'_>) -> Fate
         ensures { result ≡ fate_by self.address self.configuration (heard beacon.entry) }
     {
-        match beacon.state {
-            BeaconState::Online { bitmap, .. } => {
-                if acknowledgment_in(self.configuration, bitmap.octets).is_set(
-                    self.configuration.first,
-                ) {
-                    Fate::Confirmed
-                } else {
-                    by_room(self.repeat_by(beacon))
-                }
-            }
-            _ => Fate::Unknown,
+        let Some(acknowledgment) = self.acknowledgment(beacon) else {
+            return Fate::Unknown;
+        };
+        if acknowledgment.is_set(self.configuration.first) {
+            Fate::Confirmed
+        } else {
+            by_room(acknowledgment.repeat_start(self.grant()))
         }
     }
 }

@@ -24,7 +24,8 @@ fn as_beacon(frame: Frame<'_>) -> Result<Beacon<'_>, Fault>
     }
 }
 
-// Whether a beacon agrees with a configuration: only an Online one can differ.
+// Whether a beacon agrees with a configuration: only an Online one can differ. The number of timeslots is asked beside the bitmap, so
+// it does not go by `Member::acknowledgment`.
 fn agrees(configuration: Configuration, beacon: Beacon<'_>) -> bool
     ensures { result ≡ agrees configuration (heard beacon.entry) }
 {

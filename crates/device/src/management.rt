@@ -1,9 +1,8 @@
 // Management: how a device makes itself known, and is configured.
 ghost use Rattle.std.specs.Prelude.{◌≡◌};
-ghost use Rattle.frame.specs.Views.{told};
 ghost use Rattle.frame.specs.Writing.{fitting, left_by};
-ghost use Rattle.device.specs.Steps.{status, management_in, write_answer, write_state, write_memory, estranged, configuring, taken_by, taking, take_answer, take_state};
-ghost use Rattle.device.specs.Views.{taken_seen};
+ghost use Rattle.device.specs.Steps.{status, management_in, write_answer, write_state, write_memory, estranged, configuring, taking, take_answer, take_state};
+ghost use Rattle.device.specs.Views.{configured_seen, taken_seen};
 
 use crate::rules::Member;
 use crate::state::{Device, News, Phase};
@@ -74,12 +73,8 @@ impl<C: Cargo + Drop> Device<C> {
     }
 
     // The configuration that a request to a full address brings.
-    fn configured(
-        &self,
-        address: u64,
-        configuration: Configuration,
-    ) -> Result<Option<Configuration>, Fault>
-        ensures { taken_seen result ≡ configuring self.now address configuration }
+    fn configured(&self, address: u64, configuration: Configuration) -> Result<Configuration, Fault>
+        ensures { configured_seen result ≡ configuring self.now address configuration }
     {
         if address != self.address || is_estranged(self.configuration, configuration) {
             return Err(Refusal::Stranger.at(0));
@@ -91,39 +86,36 @@ impl<C: Cargo + Drop> Device<C> {
         if !member.keeps_rules() {
             return Err(Refusal::Misfit.at(0));
         }
-        Ok(Some(configuration))
+        Ok(configuration)
     }
 
-    // What a frame brings: to a device that asks for it, its configuration, and else none, with the acknowledgment of its answer to a discovery.
-    fn brought(&self, asking: bool, frame: Frame<'_>) -> Result<Option<Configuration>, Fault>
-        ensures { taken_seen result ≡ taken_by self.now asking (told frame.entry).message }
-    {
-        match frame {
-            Frame::Command {
-                command: Command::ConfigurationRequest {
-                    address,
-                    configuration,
-                },
-                ..
-            } if asking => self.configured(address, configuration),
-            Frame::Acknowledgment {
-                acknowledged: Acknowledged::DiscoverResponse,
-                ..
-            } if !asking => Ok(None),
-            _ => Err(Refusal::Unwanted.at(0)),
-        }
-    }
-
-    // What octets bring, by the device's phase.
+    // What octets bring, by the device's phase: its configuration, or none with the acknowledgment of its answer to a discovery.
     fn taking(&self, octets: &[u8]) -> Result<Option<Configuration>, Fault>
         ensures { taken_seen result ≡ taking self.now octets.now }
     {
-        let asking = match self.phase {
-            Phase::Asking => true,
-            Phase::Answering => false,
-            _ => return Err(Refusal::Mode.at(0)),
-        };
-        self.brought(asking, frame::read(octets)?)
+        if !matches!(self.phase, Phase::Asking | Phase::Answering) {
+            return Err(Refusal::Mode.at(0));
+        }
+        match (self.phase, frame::read(octets)?) {
+            (
+                Phase::Asking,
+                Frame::Command {
+                    command: Command::ConfigurationRequest {
+                        address,
+                        configuration,
+                    },
+                    ..
+                },
+            ) => self.configured(address, configuration).map(Some),
+            (
+                Phase::Answering,
+                Frame::Acknowledgment {
+                    acknowledged: Acknowledged::DiscoverResponse,
+                    ..
+                },
+            ) => Ok(None),
+            _ => Err(Refusal::Unwanted.at(0)),
+        }
     }
 
     // Takes a management frame of the coordinator: the acknowledgment of the device's answer to a discovery, or its configuration.

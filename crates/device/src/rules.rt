@@ -59,6 +59,7 @@ impl<C: Cargo + Drop> Device<C> {
 }
 
 // The numbers that a configuration tells; the two that it does not tell are in range.
+// A From cannot stand here: both types are of other crates.
 fn numbers_in(configuration: Configuration) -> Numbers
     ensures { result ≡ numbers_in configuration }
 {

@@ -46,8 +46,8 @@ impl<C: Cargo + Drop> Device<C> {
         Ok(written)
     }
 
-    // What the two sends have in common is `write_cargo`; to take the rest as closures would be no plainer.
-    // Sends the repeat that is due from a timeslot on.
+    // Sends the repeat that is due from a timeslot on. It differs from sending what waits in what is tested, what is sent and what
+    // is cleared, so one function of both would have all three as parameters.
     fn send_repeat(&mut self, timeslot: u8, buffer: &mut [u8]) -> Result<usize, Fault>
         ensures answer { result ≡ turn_answer C.image (again_turn timeslot self.old.repeat) buffer.old }
         ensures state { self.new ≡ turn_state self.old (again_turn timeslot self.old.repeat) result }

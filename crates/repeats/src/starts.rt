@@ -51,6 +51,7 @@ impl GroupAcknowledgment<'_> {
 }
 
 // The number of the grant whose repeat starts at timeslot t, or none.
+// The plan and t stand as two in this and the two below: a struct of both would be made for one call, and name nothing of the field.
 pub fn repeater<P: SlotPlan>(plan: &P, octets: &[u8], t: u8) -> Option<usize>
     ensures answer { result ≡ repeater_at (P.SlotPlan.meaning plan.now) octets.now t }
     ensures names { BitsAlike (P.SlotPlan.meaning plan.now) octets.now → NamesRepeater (P.SlotPlan.meaning plan.now) octets.now t result }
@@ -75,7 +76,6 @@ fn beginner<P: SlotPlan>(plan: &P, t: u8) -> Option<usize>
     (grant.first == t).then_some(i)
 }
 
-// The plan, the octets and the timeslot are asked for one by one, since each call has others.
 // The number of the grant whose frame starts at timeslot t, or none: the frame is a repeat in the timeslots up to R.
 pub fn sender<P: SlotPlan>(plan: &P, octets: &[u8], t: u8) -> Option<usize>
     ensures answer { result ≡ sender_at (P.SlotPlan.meaning plan.now) octets.now t }
