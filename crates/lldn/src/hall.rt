@@ -35,9 +35,7 @@ pub fn tell_hall(heap: Global, plan: AnyPlan, run: Run, reply: &mut Reply<'_>) -
     }
     let superframes = run.superframes;
     let microseconds = superframe.saturating_mul(u64::from(superframes));
-    reply.line(format_args!(
-        "superframes {superframes} microseconds {microseconds}"
-    ))
+    reply.line(format_args!("superframes {superframes} microseconds {microseconds}"))
 }
 
 // A coordinator, its devices, and the radio between them. It has to be finished, for its coordinator.

@@ -46,9 +46,15 @@ pub enum HostOrder<'a> {
     // Opens a superframe, with a lent buffer of this length.
     Open(usize),
     // Hears a data frame at a timeslot.
-    Hear { timeslot: u8, frame: FrameWord<'a> },
+    Hear {
+        timeslot: u8,
+        frame: FrameWord<'a>,
+    },
     // Hears a management frame, with a lent buffer of this length.
-    HearManagement { frame: FrameWord<'a>, space: usize },
+    HearManagement {
+        frame: FrameWord<'a>,
+        space: usize,
+    },
     // Closes the open superframe.
     Close,
     // Tells how far the device of a grant has come.

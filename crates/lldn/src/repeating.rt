@@ -45,10 +45,7 @@ fn outcome_of(bitmap: GroupAcknowledgment<'_>, grant: Grant) -> Outcome {
     if bitmap.is_set(grant.first) {
         return Outcome::Acknowledged;
     }
-    match (
-        bitmap.repeat_start(grant),
-        grant.direction(bitmap.numbers),
-    ) {
+    match (bitmap.repeat_start(grant), grant.direction(bitmap.numbers)) {
         (Some(first), _) => Outcome::Repeats {
             first,
             last: last(first, grant.width),
@@ -59,12 +56,7 @@ fn outcome_of(bitmap: GroupAcknowledgment<'_>, grant: Grant) -> Outcome {
 }
 
 // Whose frame starts at a timeslot.
-pub fn sender_at(
-    plan: &AnyPlan,
-    octets: &[u8],
-    t: u8,
-    reply: &mut Reply<'_>,
-) -> Result<(), Stop> {
+pub fn sender_at(plan: &AnyPlan, octets: &[u8], t: u8, reply: &mut Reply<'_>) -> Result<(), Stop> {
     match sender(plan, octets, t) {
         Some(i) => reply.line(format_args!("grant {i}")),
         None => reply.line("nobody"),

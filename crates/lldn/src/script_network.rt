@@ -166,10 +166,7 @@ impl<C: Carried> Network<C> {
         let begun = self.host.open(buffer.as_mut_slice())?;
         let superframe = begun.number;
         buffer.truncate(begun.length);
-        reply.line(format_args!(
-            "superframe {superframe} beacon {}",
-            Hex(buffer.as_slice())
-        ))?;
+        reply.line(format_args!("superframe {superframe} beacon {}", Hex(buffer.as_slice())))?;
         self.beacon = Some(buffer);
         Ok(())
     }
@@ -226,9 +223,7 @@ impl<C: Carried> Network<C> {
         let seen = word_for(record.seen);
         let requested = word_for(record.requested);
         let configured = word_for(record.configured);
-        reply.line(format_args!(
-            "seen {seen} requested {requested} configured {configured}"
-        ))
+        reply.line(format_args!("seen {seen} requested {requested} configured {configured}"))
     }
 
     fn tell_tallies(&self, reply: &mut Reply<'_>) -> Result<(), Stop> {

@@ -106,9 +106,7 @@ impl<C: Cargo + Drop> Station<C> {
         let simple = told.simple;
         let first = told.first;
         let width = told.width;
-        reply.line(format_args!(
-            "phase {phase:?} simple {simple} first {first} slots {width}"
-        ))
+        reply.line(format_args!("phase {phase:?} simple {simple} first {first} slots {width}"))
     }
 
     // Tells what became of the device's cargo.
@@ -117,8 +115,6 @@ impl<C: Cargo + Drop> Station<C> {
         let tally = self.tally;
         let sent = u8::from(self.device.has_sent());
         let waiting = u8::from(self.device.is_waiting());
-        reply.line(format_args!(
-            "device {name} {tally} sent {sent} waiting {waiting}"
-        ))
+        reply.line(format_args!("device {name} {tally} sent {sent} waiting {waiting}"))
     }
 }

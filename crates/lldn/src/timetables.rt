@@ -23,18 +23,11 @@ pub fn timetable(plan: &AnyPlan, reply: &mut Reply<'_>) -> Result<(), Stop> {
     }
     let symbols = superframe_symbols(plan);
     let microseconds = to_microseconds(symbols);
-    reply.line(format_args!(
-        "superframe symbols {symbols} microseconds {microseconds}"
-    ))
+    reply.line(format_args!("superframe symbols {symbols} microseconds {microseconds}"))
 }
 
 // Grant i, if it has a time.
-fn grant_line(
-    plan: &AnyPlan,
-    i: usize,
-    grant: Grant,
-    reply: &mut Reply<'_>,
-) -> Result<(), Stop> {
+fn grant_line(plan: &AnyPlan, i: usize, grant: Grant, reply: &mut Reply<'_>) -> Result<(), Stop> {
     let Some((start, end)) = grant_time(plan, i) else {
         return Ok(());
     };
