@@ -3,7 +3,7 @@ use Rattle.plan.specs.declared.grant.Grant.{Grant}
 use Rattle.plan.specs.declared.grant.Numbers.{Numbers}
 use Rattle.repeats.specs.Bitmaps.{with_timeslot, with_timeslots, marked_with, Marks}
 use Rattle.repeats.proofs.Alike.{always_alike, stays_alike}
-use Rattle.repeats.proofs.Marking.{length-with_timeslot, length-with_timeslots, marks}
+use Rattle.repeats.proofs.Marking.{length-with_timeslots, marks}
 use Rattle.repeats.proofs.bitmap.marked.Goals as goal
 
 -- one more timeslot is marked
@@ -16,12 +16,6 @@ one_more n xs ys zs f t low e h =
 -- what the loop ends with is the marked bitmap
 ended : (n : Numbers) (xs ys : List ℕ) (g : Grant) (t : ℕ) → t ≡ g.first + g.width → ys ≡ with_timeslots n xs g.first (t - g.first) → ys ≡ marked_with n xs g
 ended n xs ys g t past e = e ∙ ap (with_timeslots n xs g.first) (omega arith)
-
-pub loop-t-preserved : goal.loop-t-preserved
-loop-t-preserved c = (
-  ap length c.mark_timeslot.ensures ∙ length-with_timeslot c.args.numbers c.loop-t.marked _ ∙ c.loop-t.invariant.0,
-  one_more c.args.numbers c.args.bitmap c.loop-t.marked _ _ c.loop-t.t c.loop-t.auto.t c.loop-t.invariant.1 c.mark_timeslot.ensures,
-)
 
 -- marking keeps the length
 was_long : (n : Numbers) (xs ys : List ℕ) (f b : ℕ) → ys ≡ with_timeslots n xs f b → length ys ≡ 32 → length xs ≡ 32

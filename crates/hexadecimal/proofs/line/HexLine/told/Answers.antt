@@ -1,17 +1,9 @@
 -- What a line is follows from the place where its reader stands.
 use Rattle.std.proofs.Common.{ap, ◌∙◌, inl, inr}
-use Rattle.hexadecimal.specs.declared.line.Progress.TheVariants.{Untouched, Comment, Whole, Half, LoneReturn, WholeReturn, Broken}
+use Rattle.hexadecimal.specs.declared.line.Progress.TheVariants.{Whole, Half, WholeReturn, Broken}
 use Rattle.hexadecimal.specs.LineOf.{these_octets}
 use Rattle.hexadecimal.proofs.Telling.{told_there}
 use Rattle.hexadecimal.proofs.line.HexLine.told.Goals as goal
-
-pub returns-in-Untouched : goal.returns-in-Untouched
-returns-in-Untouched c t h =
-    let line = c.args.self.now in
-    elim c.in-Untouched.is [
-      | inl e ↦ told_there line t h Untouched e
-      | inr r ↦ elim r [ inl e ↦ told_there line t h LoneReturn e | inr e ↦ told_there line t h Comment e ]
-    ]
 
 pub returns-in-Whole : goal.returns-in-Whole
 returns-in-Whole c t h =

@@ -4,17 +4,9 @@ use Rattle.std.specs.Fmt.{DisplaysOnOk, format_spec, padded_integral, styled_dig
 use Rattle.std.specs.Option.{option_map}
 use Rattle.std.proofs.Output.{has_written_append, has_written_of_eq}
 use Rattle.std.proofs.lemmas.Fmt.{hex_byte}
-use Rattle.hexadecimal.specs.Grammar.{octet_digits, spelling, text_of}
-use Rattle.hexadecimal.proofs.Showing.{spelling_more, spelling_all}
+use Rattle.hexadecimal.specs.Grammar.{octet_digits, spelling}
+use Rattle.hexadecimal.proofs.Showing.{spelling_more}
 use Rattle.hexadecimal.proofs.show.HexDisplay.fmt.Goals as goal
-
-pub returns-clause-writes : goal.returns-clause-writes
-returns-clause-writes g c plain ok =
-    let took = g.W.Write.write_str_gives in
-    let octets = c.args.self.now.0.now in
-    let i = c.loop-octet.octet-index in
-    let all = spelling_all octets i c.loop-octet-test.false c.if-is_empty.ensures in
-    has_written_of_eq took c.args.f.now (spelling (take i octets)) (text_of octets) c.loop-octet.f all (c.loop-octet.invariant plain)
 
 pub loop-octet-preserved : goal.loop-octet-preserved
 loop-octet-preserved g c plain =
