@@ -1,7 +1,7 @@
 // Questions that every slot plan answers, by its interface alone.
-ghost use Rattle.std.specs.Prelude.{◌≡◌, true, Decides, nat_eq};
+ghost use Rattle.std.specs.Prelude.{◌≡◌, true, Decides};
 ghost use Rattle.std.specs.Option.{option_map};
-ghost use Rattle.plan.specs.Answers.{passing, holder_of, number_with, with_grant};
+ghost use Rattle.plan.specs.Answers.{holder_of, number_with, with_grant};
 ghost use Rattle.plan.specs.Laws.{AtMostOneHolder, AddressesDiffer, NamesHolder, NamesAddressed, Alike};
 
 use super::grant::Grant;
