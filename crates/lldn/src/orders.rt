@@ -1,12 +1,10 @@
 // Orders to a network, and the words that they are made of.
 use crate::cargoes::{Kind, Offer};
+use crate::host::SPACE;
 use crate::octets::Octets;
 use crate::words::{Words, named, number};
 use coordinator::Mode;
 use frame::{Direction, Wish};
-
-// The longest frame takes no more octets than this.
-const SPACE: usize = 127;
 
 // An order to the script's network.
 #[derive(Drop)]
@@ -46,9 +44,15 @@ pub enum HostOrder<'a> {
     // Opens a superframe, with a lent buffer of this length.
     Open(usize),
     // Hears a data frame at a timeslot.
-    Hear { timeslot: u8, frame: FrameWord<'a> },
+    Hear {
+        timeslot: u8,
+        frame: FrameWord<'a>,
+    },
     // Hears a management frame, with a lent buffer of this length.
-    HearManagement { frame: FrameWord<'a>, space: usize },
+    HearManagement {
+        frame: FrameWord<'a>,
+        space: usize,
+    },
     // Closes the open superframe.
     Close,
     // Tells how far the device of a grant has come.
