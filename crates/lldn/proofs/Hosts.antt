@@ -22,4 +22,4 @@ reply_keeps s (Ok x) b h p = either_keeps (is_ok (fitting x.reply b)) (noted s x
 reply_keeps s (Err f) b h p = p
 
 pub manage_keeps : (m : PlanMeaning) (s : Inner) (k : ℕ) (xs b : List ℕ) (h : Option OpenSuperframe) → holds s h ≡ true → holds (manage_state m s k xs b) h ≡ true
-manage_keeps m s k xs b h p = reply_keeps s (managing m s k xs b) b h p
+manage_keeps m s k xs b h p = reply_keeps s (managing m s k xs) b h p

@@ -17,7 +17,8 @@ impl<'a> Iterator for Words<'a> {
 
     fn next(&mut self) -> Option<&'a str> {
         let word = self.rest.next()?;
-        if word.starts_with('#') {
+        // As octets: starts_with is slower on long lines.
+        if word.as_bytes().first() == Some(&b'#') {
             self.rest = "".split_whitespace();
             return None;
         }

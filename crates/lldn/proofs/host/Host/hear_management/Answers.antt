@@ -6,8 +6,8 @@ use Rattle.lldn.specs.Plans.{plan_meaning}
 use Rattle.lldn.proofs.Hosts.{manage_keeps}
 use Rattle.lldn.proofs.host.Host.hear_management.Goals as goal
 
-pub invariant_of-self : goal.invariant_of-self
-invariant_of-self c =
+pub invariant_of-self-2 : goal.invariant_of-self-2
+invariant_of-self-2 c =
     let host = c.args.self.now in
     let keeps = manage_keeps (plan_meaning host.coordinator.plan) host.coordinator.inner _ c.args.octets.now c.args.buffer.now host.held host.own in
     record { own = subst (λ (s : Inner). holds s host.held ≡ true) (sym c.hear_management.ensures.state) keeps }
