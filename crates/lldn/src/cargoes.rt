@@ -80,6 +80,7 @@ impl Carried for Reading {}
 
 impl Carried for Panel {}
 
+// The cargo that a line gives.
 impl TryFrom<Offer> for Reading {
     type Error = Obstacle;
 
