@@ -1,2 +1,3 @@
 pub mod Addresses
+pub mod Codes
 pub mod Lines

@@ -19,7 +19,7 @@ pub enum Report<'a> {
 }
 
 impl Report<'_> {
-    // The report of a line, or none where the line is skipped.
+    // The report of a line, or none where the line is skipped: three cases, each with its own report, so a chain over both wrappers would hide one.
     pub fn of(line: &HexLine) -> Option<Report<'_>>
         ensures { (t : List ℕ) → Read line.now t → option_map report_seen result ≡ reported (line_of t) }
     {

@@ -19,7 +19,7 @@ impl fmt::Display for Named<'_> {
     }
 }
 
-// A full address.
+// A full address, as its octets: tried as `{:016x}`, but no lemma says which zeros stand before a number's digits.
 #[derive(Clone, Copy)]
 struct Address(u64);
 
@@ -53,16 +53,13 @@ impl fmt::Display for Header {
 
 // The numbers of a configuration up to its grant, with the management octet that stands third.
 #[derive(Clone, Copy)]
-struct Granted {
-    configuration: Configuration,
-    management: u8,
-}
+struct Granted(Configuration, u8);
 
 impl fmt::Display for Granted {
-    ghost output = { λ x. Some (grant_text x.configuration x.management) };
+    ghost output = { λ x. Some (grant_text x.0 x.1) };
 
     fn fmt<W: fmt::Write>(&self, f: &mut fmt::Formatter<W>) -> fmt::Result {
-        let management = self.management;
+        let Granted(configuration, management) = *self;
         let Configuration {
             simple,
             channel,
@@ -70,7 +67,7 @@ impl fmt::Display for Granted {
             first,
             width,
             ..
-        } = self.configuration;
+        } = configuration;
         write!(
             f,
             "simple@10={simple} channel@11={channel} management@12={management} n@13={size} first@14={first} slots@15={width}"
@@ -102,38 +99,28 @@ impl fmt::Display for Planned {
 
 // The control octet and the flags of a beacon.
 #[derive(Clone, Copy)]
-struct Start<'a> {
-    control: Part<'a>,
-    flags: Part<'a>,
-}
+struct Start<'a>(Part<'a>, Part<'a>);
 
 impl fmt::Display for Start<'_> {
-    ghost output = { λ x. Some (start_text x.control x.flags) };
+    ghost output = { λ x. Some (start_text x.0 x.1) };
 
     fn fmt<W: fmt::Write>(&self, f: &mut fmt::Formatter<W>) -> fmt::Result {
-        let control = Named("control", self.control);
-        let flags = Named("flags", self.flags);
+        let Start(control, flags) = *self;
+        let control = Named("control", control);
+        let flags = Named("flags", flags);
         write!(f, "{control} {flags}")
     }
 }
 
 // A beacon.
 #[derive(Clone, Copy)]
-struct Beacon<'a> {
-    start: Start<'a>,
-    header: Header,
-    state: BeaconState<'a>,
-}
+struct Beacon<'a>(Start<'a>, Header, BeaconState<'a>);
 
 impl fmt::Display for Beacon<'_> {
-    ghost output = { λ x. Some (beacon_text x.start.control x.start.flags x.header.0 x.state) };
+    ghost output = { λ x. Some (beacon_text x.0.0 x.0.1 x.1.0 x.2) };
 
     fn fmt<W: fmt::Write>(&self, f: &mut fmt::Formatter<W>) -> fmt::Result {
-        let Beacon {
-            start,
-            header,
-            state,
-        } = *self;
+        let Beacon(start, header, state) = *self;
         match state {
             BeaconState::Online { timeslots, bitmap } => {
                 let bitmap = Named("bitmap", bitmap);
@@ -154,37 +141,31 @@ impl fmt::Display for Beacon<'_> {
 
 // The control octet of a command, and the full address in it.
 #[derive(Clone, Copy)]
-struct Addressed<'a> {
-    control: Part<'a>,
-    address: u64,
-}
+struct Addressed<'a>(Part<'a>, u64);
 
 impl fmt::Display for Addressed<'_> {
-    ghost output = { λ x. Some (addressed_text x.control x.address) };
+    ghost output = { λ x. Some (addressed_text x.0 x.1) };
 
     fn fmt<W: fmt::Write>(&self, f: &mut fmt::Formatter<W>) -> fmt::Result {
-        let control = Named("control", self.control);
-        let address = Address(self.address);
+        let Addressed(control, address) = *self;
+        let control = Named("control", control);
+        let address = Address(address);
         write!(f, "{control} address@2={address}")
     }
 }
 
-// A command, with its control octet and its parameters.
+// The control octet and the parameters of a command, and the command.
 #[derive(Clone, Copy)]
-struct Commanded<'a> {
-    control: Part<'a>,
-    parameters: Part<'a>,
-    command: Command,
-}
+struct Commanded<'a>(Part<'a>, Part<'a>, Command);
 
 impl fmt::Display for Commanded<'_> {
-    ghost output = { λ x. Some (command_text x.control x.parameters x.command) };
+    ghost output = { λ x. Some (command_text x.0 x.1 x.2) };
 
     fn fmt<W: fmt::Write>(&self, f: &mut fmt::Formatter<W>) -> fmt::Result {
-        let control = self.control;
-        match self.command {
+        let Commanded(control, parameters, command) = *self;
+        match command {
             Command::DiscoverResponse { address, wish } => {
-                let start = Addressed { control, address };
+                let start = Addressed(control, address);
                 let Wish { width, direction } = wish;
                 write!(
                     f,
@@ -198,7 +179,7 @@ impl fmt::Display for Commanded<'_> {
                 first,
                 width,
             } => {
-                let start = Addressed { control, address };
+                let start = Addressed(control, address);
                 write!(
                     f,
                     "command Configuration-Status {start} simple@10={simple} width@11={} direction@12={} first@13={first} slots@14={width}",
@@ -209,12 +190,9 @@ impl fmt::Display for Commanded<'_> {
                 address,
                 configuration,
             } => {
-                let start = Addressed { control, address };
-                let management = self.parameters.octets.get(10).copied().unwrap_or(0);
-                let grant = Granted {
-                    configuration,
-                    management,
-                };
+                let start = Addressed(control, address);
+                let management = parameters.octets.get(10).copied().unwrap_or(0);
+                let grant = Granted(configuration, management);
                 let plan = Planned(configuration);
                 write!(f, "command Configuration-Request {start} {grant} {plan}")
             }
@@ -237,17 +215,8 @@ impl fmt::Display for Dissected<'_> {
                 header,
                 state,
             } => {
-                let start = Start { control, flags };
-                let header = Header(header);
-                write!(
-                    f,
-                    "{}",
-                    Beacon {
-                        start,
-                        header,
-                        state
-                    }
-                )
+                let beacon = Beacon(Start(control, flags), Header(header), state);
+                write!(f, "{beacon}")
             }
             Frame::Data { control, payload } => {
                 let control = Named("control", control);
@@ -259,22 +228,17 @@ impl fmt::Display for Dissected<'_> {
                 acknowledged,
             } => {
                 let control = Named("control", control);
-                let code = [u8::from(acknowledged)];
-                write!(f, "acknowledgment {control} type@1={}", Hex(&code))
+                let code = u8::from(acknowledged);
+                write!(f, "acknowledgment {control} type@1={code:02x}")
             }
             Frame::Command {
                 control,
                 parameters,
                 command,
-            } => write!(
-                f,
-                "{}",
-                Commanded {
-                    control,
-                    parameters,
-                    command
-                }
-            ),
+            } => {
+                let command = Commanded(control, parameters, command);
+                write!(f, "{command}")
+            }
         }
     }
 }

@@ -1,4 +1,5 @@
 // Cargo of either kind: as a line gives it, as its image, and read back.
+use crate::host::SPACE;
 use crate::reply::Reply;
 use crate::stops::{Obstacle, Stop};
 use crate::words::{number, signed};
@@ -62,6 +63,7 @@ impl Offer {
         if !word.bytes().all(|byte| matches!(byte, b'0' | b'1')) {
             return None;
         }
+        // Fixed memory, as no heap is at hand where words are read: a panel has at most 64 inputs.
         let mut inputs = [false; 64];
         for (input, byte) in inputs.iter_mut().zip(word.bytes()) {
             *input = byte == b'1';
@@ -72,13 +74,17 @@ impl Offer {
 }
 
 // Cargo that a network of the console carries.
-pub trait Carried: Cargo + fmt::Display + Drop {
-    // The cargo that a line gives.
-    fn of(offer: Offer) -> Result<Self, Obstacle>;
-}
+pub trait Carried: Cargo + fmt::Display + Drop + TryFrom<Offer, Error = Obstacle> {}
 
-impl Carried for Reading {
-    fn of(offer: Offer) -> Result<Reading, Obstacle> {
+impl Carried for Reading {}
+
+impl Carried for Panel {}
+
+// The cargo that a line gives.
+impl TryFrom<Offer> for Reading {
+    type Error = Obstacle;
+
+    fn try_from(offer: Offer) -> Result<Reading, Obstacle> {
         match offer {
             Offer::Reading(reading) => reading.ok_or(Obstacle::NoCargo(Kind::Reading)),
             Offer::Panel(_) => Err(Obstacle::NotUnderstood),
@@ -86,8 +92,10 @@ impl Carried for Reading {
     }
 }
 
-impl Carried for Panel {
-    fn of(offer: Offer) -> Result<Panel, Obstacle> {
+impl TryFrom<Offer> for Panel {
+    type Error = Obstacle;
+
+    fn try_from(offer: Offer) -> Result<Panel, Obstacle> {
         match offer {
             Offer::Reading(_) => Err(Obstacle::NotUnderstood),
             Offer::Panel(panel) => panel.ok_or(Obstacle::NoCargo(Kind::Panel)),
@@ -95,7 +103,7 @@ impl Carried for Panel {
     }
 }
 
-// What octets are read as.
+// What octets are read as: an enum, as no closure is generic over the kind of cargo.
 #[derive(Clone, Copy)]
 pub enum Source {
     // The image of cargo.
@@ -116,13 +124,13 @@ impl Source {
 // Answers the image of the cargo that a line gives.
 pub fn image(offer: Offer, reply: &mut Reply<'_>) -> Result<(), Stop> {
     match offer.kind() {
-        Kind::Reading => image_of(&Reading::of(offer)?, reply),
-        Kind::Panel => image_of(&Panel::of(offer)?, reply),
+        Kind::Reading => image_of(&Reading::try_from(offer)?, reply),
+        Kind::Panel => image_of(&Panel::try_from(offer)?, reply),
     }
 }
 
 fn image_of<C: Cargo>(cargo: &C, reply: &mut Reply<'_>) -> Result<(), Stop> {
-    let mut buffer = [0; 124];
+    let mut buffer = [0; SPACE];
     let length = cargo.write(&mut buffer)?;
     reply.line(format_args!("image {}", Hex(&buffer[..length])))
 }

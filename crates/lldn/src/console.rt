@@ -4,13 +4,11 @@ mod networking;
 use crate::cargoes::{Kind, image, read};
 use crate::networks::AnyNetwork;
 use crate::plans::AnyPlan;
-use crate::repeating::{repeats, sender_at};
 use crate::reply::Reply;
 use crate::requests::Request;
 use crate::stops::{Obstacle, Stop};
-use crate::timetables::{holder, timetable};
 use plan::{EvenPlan, Grant, ListedPlan, Numbers, SlotPlan};
-use repeats::GroupAcknowledgment;
+use repeats::{GroupAcknowledgment, sender};
 use std::alloc::Global;
 use std::io;
 
@@ -68,15 +66,16 @@ impl Console {
         match self.obey(line, reply) {
             Ok(()) => Ok(()),
             Err(Stop::Obstacle(obstacle)) => reply.write(obstacle),
+            Err(Stop::Memory(error)) => Err(error.into()),
             Err(Stop::Failure(error)) => Err(error),
         }
     }
 
     fn obey(&mut self, line: &[u8], reply: &mut Reply<'_>) -> Result<(), Stop> {
-        match Request::of(line)? {
-            Some(request) => self.answer(request, reply),
-            None => Ok(()),
+        if let Some(request) = Request::of(line)? {
+            self.answer(request, reply)?;
         }
+        Ok(())
     }
 
     fn answer(&mut self, request: Request<'_>, reply: &mut Reply<'_>) -> Result<(), Stop> {
@@ -87,8 +86,8 @@ impl Console {
             Request::Even { numbers, grants } => {
                 self.accept(AnyPlan::Even(EvenPlan::new(numbers, grants)?), reply)
             }
-            Request::Timetable => timetable(&self.accepted()?.plan, reply),
-            Request::Holder(t) => holder(&self.accepted()?.plan, t, reply),
+            Request::Timetable => self.accepted()?.plan.tell_timetable(reply),
+            Request::Holder(t) => reply.grant_or(self.accepted()?.plan.holder(t), "none"),
             Request::Repeats(octets) => self.repeat(octets.as_slice(), reply),
             Request::Sender(t) => self.send(t, reply),
             Request::Image(offer) => image(offer, reply),
@@ -146,13 +145,13 @@ impl Console {
             return Err(Obstacle::Misfit.into());
         }
         accepted.bitmap = Some(octets.to_vec(self.heap)?);
-        repeats(&accepted.plan, bitmap, reply)
+        accepted.plan.tell_repeats(bitmap, reply)
     }
 
     // Tells whose frame starts at a timeslot by the bitmap that was kept.
     fn send(&self, t: u8, reply: &mut Reply<'_>) -> Result<(), Stop> {
         let accepted = self.accepted()?;
         let bitmap = accepted.bitmap.as_ref().ok_or(Obstacle::NoBitmap)?;
-        sender_at(&accepted.plan, bitmap.as_slice(), t, reply)
+        reply.grant_or(sender(&accepted.plan, bitmap.as_slice(), t), "nobody")
     }
 }

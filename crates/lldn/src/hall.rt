@@ -1,5 +1,5 @@
 // A whole run of a network that carries readings, over a radio that loses frames.
-use crate::host::Host;
+use crate::host::{Host, SPACE};
 use crate::performers::{Performer, first};
 use crate::plans::AnyPlan;
 use crate::radio::Radio;
@@ -75,45 +75,56 @@ impl Hall {
 
     // Discovery, configuration, and then the Online superframes.
     fn play(&mut self, superframes: u32) -> Result<(), Fault> {
-        self.meet(|performer, host| performer.ask(host))?;
+        self.superframe(|hall, beacon| hall.meet(beacon, |performer, host| performer.ask(host)))?;
         self.host.set_mode(Mode::Configuration)?;
-        self.meet(|performer, host| {
-            performer.ask(host)?;
-            performer.thank(host)
+        self.superframe(|hall, beacon| {
+            hall.meet(beacon, |performer, host| {
+                performer.ask(host)?;
+                performer.thank(host)
+            })
         })?;
         self.host.set_mode(Mode::Online)?;
         for _ in 0..superframes {
-            self.superframe()?;
+            self.superframe(|hall, beacon| hall.carry(beacon))?;
         }
         Ok(())
     }
 
-    // A superframe in which every device takes the beacon and exchanges management frames.
+    // A superframe, and what happens in it after its beacon.
+    fn superframe<F: Fn(&mut Hall, &[u8]) -> Result<(), Fault>>(
+        &mut self,
+        happen: F,
+    ) -> Result<(), Fault>
+        requires { F.IsAlwaysCallable happen }
+    {
+        let mut beacon = [0; SPACE];
+        let begun = self.host.open(&mut beacon)?;
+        happen(self, first(&beacon, begun.length))?;
+        let _ = self.host.close();
+        Ok(())
+    }
+
+    // Every device takes the beacon and exchanges management frames.
     fn meet<F: Fn(&mut Performer, &mut Host) -> Result<(), Fault>>(
         &mut self,
+        beacon: &[u8],
         exchange: F,
     ) -> Result<(), Fault>
         requires { F.IsAlwaysCallable exchange }
     {
-        let mut beacon = [0; 127];
-        let begun = self.host.open(&mut beacon)?;
         for performer in self.performers.iter_mut() {
-            performer.take_beacon(first(&beacon, begun.length))?;
+            performer.take_beacon(beacon)?;
             exchange(performer, &mut self.host)?;
         }
-        let _ = self.host.close();
         Ok(())
     }
 
-    // An Online superframe.
-    fn superframe(&mut self) -> Result<(), Fault> {
-        let mut beacon = [0; 127];
-        let begun = self.host.open(&mut beacon)?;
-        self.begin(first(&beacon, begun.length))?;
+    // Every device gets the beacon or misses it, and readings are carried in each timeslot.
+    fn carry(&mut self, beacon: &[u8]) -> Result<(), Fault> {
+        self.begin(beacon)?;
         for t in 1..=self.timeslots {
             self.timeslot(t)?;
         }
-        let _ = self.host.close();
         Ok(())
     }
 

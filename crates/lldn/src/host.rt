@@ -8,7 +8,11 @@ use coordinator::{Coordinator, Heard, Mode, OpenSuperframe, Opened, Record};
 use frame::{Fault, Refusal};
 use network::coordinator_for;
 
+// The memory that a host lends an end for a frame: fixed, without the heap, and as much as the longest frame takes.
+pub const SPACE: usize = 127;
+
 // A coordinator that keeps the superframe that it has open. It has to be finished, since an open superframe cannot be let go.
+// What is held is always the open one (`own`), so that no refusal comes where `unreachable` stands: this is proved.
 pub struct Host {
     coordinator: Coordinator<AnyPlan>,
     held: Option<OpenSuperframe>,

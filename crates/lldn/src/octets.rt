@@ -12,9 +12,6 @@ impl Octets {
     }
 
     pub fn as_slice(&self) -> &[u8] {
-        match self.0.told() {
-            Ok(Some(octets)) => octets,
-            _ => &[],
-        }
+        self.0.told().ok().flatten().unwrap_or(&[])
     }
 }

@@ -1,12 +1,10 @@
 // Orders to a network, and the words that they are made of.
 use crate::cargoes::{Kind, Offer};
+use crate::host::SPACE;
 use crate::octets::Octets;
 use crate::words::{Words, named, number};
 use coordinator::Mode;
 use frame::{Direction, Wish};
-
-// The longest frame takes no more octets than this.
-const SPACE: usize = 127;
 
 // An order to the script's network.
 #[derive(Drop)]

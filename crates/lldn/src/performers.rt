@@ -1,12 +1,11 @@
 // A device of a whole run.
-use crate::host::Host;
+use crate::host::{Host, SPACE};
 use crate::radio::Radio;
 use crate::reply::Reply;
 use crate::stops::Stop;
-use crate::tallies::Tally;
+use crate::tallies::Tallied;
 use cargo::Reading;
 use coordinator::Heard;
-use device::Device;
 use frame::{Fault, Wish};
 use plan::{Grant, Numbers};
 
@@ -14,8 +13,7 @@ use plan::{Grant, Numbers};
 #[derive(Drop)]
 pub struct Performer {
     simple: u8,
-    device: Device<Reading>,
-    tally: Tally,
+    end: Tallied<Reading>,
     // How many of its readings the coordinator handed up under its simple address.
     handed_up: u32,
 }
@@ -28,58 +26,54 @@ impl Performer {
         };
         Performer {
             simple: grant.simple,
-            device: Device::new(grant.address, wish),
-            tally: Tally::default(),
+            end: Tallied::new(grant.address, wish),
             handed_up: 0,
         }
     }
 
     pub fn take_beacon(&mut self, beacon: &[u8]) -> Result<(), Fault> {
-        let fate = self.device.beacon(beacon)?;
-        self.tally.count(fate);
+        self.end.beacon(beacon)?;
         Ok(())
     }
 
     pub fn miss_beacon(&mut self) {
-        let fate = self.device.missed();
-        self.tally.count(fate);
+        let _ = self.end.missed();
     }
 
     // Writes a management frame, and takes the coordinator's reply.
     pub fn ask(&mut self, host: &mut Host) -> Result<(), Fault> {
-        let mut reply = [0; 127];
+        let mut reply = [0; SPACE];
         let length = self.write_management(host, &mut reply)?;
-        self.device.take(first(&reply, length))
+        self.end.device.take(first(&reply, length))
     }
 
     // Acknowledges its grant.
     pub fn thank(&mut self, host: &mut Host) -> Result<(), Fault> {
-        self.write_management(host, &mut [0; 127])?;
+        self.write_management(host, &mut [0; SPACE])?;
         Ok(())
     }
 
     // Writes a management frame, which the coordinator hears, and answers how long the reply is.
     fn write_management(&mut self, host: &mut Host, reply: &mut [u8]) -> Result<usize, Fault> {
-        let mut frame = [0; 127];
-        let written = self.device.write_management(&mut frame)?;
+        let mut frame = [0; SPACE];
+        let written = self.end.device.write_management(&mut frame)?;
         host.hear_management(first(&frame, written), reply)
     }
 
     // Is offered a reading, if none waits: how many were accepted before, with quality 0.
     pub fn offer(&mut self) {
-        let value = i32::try_from(self.tally.accepted).ok();
+        let value = i32::try_from(self.end.accepted()).ok();
         if let Some(reading) = value.and_then(|value| Reading::new(value, 0))
-            && !self.device.is_waiting()
-            && self.device.offer(reading).is_ok()
+            && !self.end.device.is_waiting()
         {
-            self.tally.accept();
+            let _ = self.end.offer(reading);
         }
     }
 
     // Sends in a timeslot; what the radio does not lose, the coordinator hears and hands up.
     pub fn send(&mut self, host: &mut Host, radio: &mut Radio, t: u8) -> Result<(), Fault> {
-        let mut frame = [0; 127];
-        let length = self.device.send(t, &mut frame)?;
+        let mut frame = [0; SPACE];
+        let length = self.end.device.send(t, &mut frame)?;
         if length == 0 || radio.loses() {
             return Ok(());
         }
@@ -93,17 +87,13 @@ impl Performer {
     // Tells what came of its readings.
     pub fn tell(&self, reply: &mut Reply<'_>) -> Result<(), Stop> {
         let simple = self.simple;
-        let tally = self.tally;
-        let sent = u8::from(self.device.has_sent());
-        let waiting = u8::from(self.device.is_waiting());
+        let end = &self.end;
         let handed_up = self.handed_up;
-        reply.line(format_args!(
-            "station {simple} {tally} sent {sent} waiting {waiting} handed-up {handed_up}"
-        ))
+        reply.line(format_args!("station {simple} {end} handed-up {handed_up}"))
     }
 }
 
-// The octets that a call wrote at the start of a buffer.
+// The octets that a call wrote at the start of a buffer: by `get`, so that no proof follows each call's count to the buffer's end.
 pub fn first(octets: &[u8], count: usize) -> &[u8] {
     octets.get(..count).unwrap_or(octets)
 }

@@ -4,7 +4,7 @@ use crate::reply::Reply;
 use crate::stops::Stop;
 use frame::Direction;
 use plan::{Grant, Grants};
-use repeats::{GroupAcknowledgment, sender};
+use repeats::GroupAcknowledgment;
 use std::fmt;
 
 // What becomes of a grant's frame by a bitmap.
@@ -27,17 +27,19 @@ impl fmt::Display for Outcome {
     }
 }
 
-// Tells what becomes of each grant by a bitmap.
-pub fn repeats(
-    plan: &AnyPlan,
-    bitmap: GroupAcknowledgment<'_>,
-    reply: &mut Reply<'_>,
-) -> Result<(), Stop> {
-    for (i, grant) in Grants::of(plan) {
-        let outcome = outcome_of(bitmap, grant);
-        reply.line(format_args!("grant {i} {outcome}"))?;
+impl AnyPlan {
+    // Tells what becomes of each grant by a bitmap.
+    pub fn tell_repeats(
+        &self,
+        bitmap: GroupAcknowledgment<'_>,
+        reply: &mut Reply<'_>,
+    ) -> Result<(), Stop> {
+        for (i, grant) in Grants::of(self) {
+            let outcome = outcome_of(bitmap, grant);
+            reply.line(format_args!("grant {i} {outcome}"))?;
+        }
+        Ok(())
     }
-    Ok(())
 }
 
 // What becomes of one grant.
@@ -52,13 +54,5 @@ fn outcome_of(bitmap: GroupAcknowledgment<'_>, grant: Grant) -> Outcome {
         },
         (None, Direction::Uplink) => Outcome::Lost,
         (None, Direction::Bidirectional) => Outcome::NoRepeat,
-    }
-}
-
-// Whose frame starts at a timeslot.
-pub fn sender_at(plan: &AnyPlan, octets: &[u8], t: u8, reply: &mut Reply<'_>) -> Result<(), Stop> {
-    match sender(plan, octets, t) {
-        Some(i) => reply.line(format_args!("grant {i}")),
-        None => reply.line("nobody"),
     }
 }

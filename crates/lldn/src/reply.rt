@@ -28,4 +28,12 @@ impl<'a> Reply<'a> {
     pub fn line(&mut self, text: impl Display + Drop) -> Result<(), Stop> {
         Ok(self.write(text)?)
     }
+
+    // Writes the number of a grant, or a word where there is none.
+    pub fn grant_or(&mut self, grant: Option<usize>, none: &str) -> Result<(), Stop> {
+        match grant {
+            Some(i) => self.line(format_args!("grant {i}")),
+            None => self.line(none),
+        }
+    }
 }

@@ -51,21 +51,20 @@ pub enum Request<'a> {
 impl<'a> Request<'a> {
     // The command in a line, or none in an empty line or a comment.
     pub fn of(line: &'a [u8]) -> Result<Option<Request<'a>>, Obstacle> {
-        let Ok(text) = from_utf8(line) else {
-            return Err(Obstacle::NotUnderstood);
-        };
+        let text = from_utf8(line).map_err(|_| Obstacle::NotUnderstood)?;
         let mut words = Words::of(text);
         let Some(command) = words.next() else {
             return Ok(None);
         };
-        match request_in(&mut words, command) {
-            Some(request) if words.next().is_none() => Ok(Some(request)),
-            _ => Err(Obstacle::NotUnderstood),
+        let request = request_in(&mut words, command).ok_or(Obstacle::NotUnderstood)?;
+        if words.next().is_some() {
+            return Err(Obstacle::NotUnderstood);
         }
+        Ok(Some(request))
     }
 }
 
-// A command and the words that it takes.
+// A command and the words that it takes. The command is a word that was taken already, so it is no part of the words.
 fn request_in<'a>(words: &mut Words<'a>, command: &str) -> Option<Request<'a>> {
     match command {
         "listed" => Some(Request::Listed(numbers(words)?)),

@@ -23,6 +23,7 @@ pub struct Network<C> {
 }
 
 impl<C: Carried> Network<C> {
+    // The heap and the plan meet where something is made over both alone: each goes into a field of its own.
     pub fn new(heap: Global, plan: AnyPlan) -> Network<C> {
         Network {
             heap,
@@ -90,7 +91,7 @@ impl<C: Carried> Network<C> {
                 station.beacon(frame.ok_or(Obstacle::NoFrame)?.as_slice(), reply)
             }
             DeviceOrder::Missed => self.station(name)?.missed(reply),
-            DeviceOrder::Offer(offer) => self.station(name)?.offer(C::of(offer)?, reply),
+            DeviceOrder::Offer(offer) => self.station(name)?.offer(C::try_from(offer)?, reply),
             DeviceOrder::Send { timeslot, space } => {
                 let buffer = self.buffer(space)?;
                 self.station(name)?.send(timeslot, buffer, reply)

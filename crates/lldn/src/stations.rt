@@ -1,9 +1,9 @@
 // A device of the script's network, and what it is ordered.
 use crate::reply::Reply;
 use crate::stops::Stop;
-use crate::tallies::Tally;
+use crate::tallies::Tallied;
 use cargo::Cargo;
-use device::{Device, Fate};
+use device::Fate;
 use frame::Wish;
 use hexadecimal::Hex;
 use std::alloc::{AllocError, Global};
@@ -12,8 +12,7 @@ use std::alloc::{AllocError, Global};
 #[derive(Drop)]
 pub struct Station<C> {
     pub name: String,
-    device: Device<C>,
-    tally: Tally,
+    end: Tallied<C>,
     // The frame that it wrote last.
     pub wrote: Option<Vec<u8>>,
 }
@@ -22,8 +21,7 @@ impl<C: Cargo + Drop> Station<C> {
     pub fn new(heap: Global, name: &str, address: u64, wish: Wish) -> Result<Self, AllocError> {
         Ok(Station {
             name: String::from_str(heap, name)?,
-            device: Device::new(address, wish),
-            tally: Tally::default(),
+            end: Tallied::new(address, wish),
             wrote: None,
         })
     }
@@ -33,31 +31,19 @@ impl<C: Cargo + Drop> Station<C> {
     }
 
     pub fn has_address(&self, address: u64) -> bool {
-        self.device.address() == address
+        self.end.device.address() == address
     }
 
     pub fn beacon(&mut self, octets: &[u8], reply: &mut Reply<'_>) -> Result<(), Stop> {
-        let fate = self.device.beacon(octets)?;
-        self.tell_fate(fate, reply)
+        tell_fate(self.end.beacon(octets)?, reply)
     }
 
     pub fn missed(&mut self, reply: &mut Reply<'_>) -> Result<(), Stop> {
-        let fate = self.device.missed();
-        self.tell_fate(fate, reply)
-    }
-
-    // Counts a fate, and tells it.
-    fn tell_fate(&mut self, fate: Option<Fate>, reply: &mut Reply<'_>) -> Result<(), Stop> {
-        self.tally.count(fate);
-        match fate {
-            Some(fate) => reply.line(format_args!("fate {fate:?}")),
-            None => reply.line("no fate"),
-        }
+        tell_fate(self.end.missed(), reply)
     }
 
     pub fn offer(&mut self, cargo: C, reply: &mut Reply<'_>) -> Result<(), Stop> {
-        self.device.offer(cargo)?;
-        self.tally.accept();
+        self.end.offer(cargo)?;
         reply.line("accepted")
     }
 
@@ -67,40 +53,36 @@ impl<C: Cargo + Drop> Station<C> {
         mut buffer: Vec<u8>,
         reply: &mut Reply<'_>,
     ) -> Result<(), Stop> {
-        let length = self.device.send(timeslot, buffer.as_mut_slice())?;
-        self.tell_frame(length, buffer, reply)
+        let length = self.end.device.send(timeslot, buffer.as_mut_slice())?;
+        buffer.truncate(length);
+        self.tell_frame(buffer, reply)
     }
 
     pub fn write(&mut self, mut buffer: Vec<u8>, reply: &mut Reply<'_>) -> Result<(), Stop> {
-        let length = self.device.write_management(buffer.as_mut_slice())?;
-        self.tell_frame(length, buffer, reply)
+        let length = self.end.device.write_management(buffer.as_mut_slice())?;
+        buffer.truncate(length);
+        self.tell_frame(buffer, reply)
     }
 
-    // Keeps and tells the frame that was written into a buffer.
-    fn tell_frame(
-        &mut self,
-        length: usize,
-        mut buffer: Vec<u8>,
-        reply: &mut Reply<'_>,
-    ) -> Result<(), Stop> {
-        if length == 0 {
+    // Keeps and tells the frame that was written, if any was.
+    fn tell_frame(&mut self, frame: Vec<u8>, reply: &mut Reply<'_>) -> Result<(), Stop> {
+        if frame.is_empty() {
             return reply.line("nothing");
         }
-        buffer.truncate(length);
-        reply.line(format_args!("frame {}", Hex(buffer.as_slice())))?;
-        self.wrote = Some(buffer);
+        reply.line(format_args!("frame {}", Hex(frame.as_slice())))?;
+        self.wrote = Some(frame);
         Ok(())
     }
 
     pub fn take(&mut self, octets: &[u8], reply: &mut Reply<'_>) -> Result<(), Stop> {
-        self.device.take(octets)?;
+        self.end.device.take(octets)?;
         reply.line("taken")
     }
 
     // Tells how far the device has come, and its grant.
     pub fn tell_phase(&self, reply: &mut Reply<'_>) -> Result<(), Stop> {
-        let phase = self.device.phase();
-        let Some(told) = self.device.configuration() else {
+        let phase = self.end.device.phase();
+        let Some(told) = self.end.device.configuration() else {
             return reply.line(format_args!("phase {phase:?}"));
         };
         let simple = told.simple;
@@ -112,9 +94,15 @@ impl<C: Cargo + Drop> Station<C> {
     // Tells what became of the device's cargo.
     pub fn tell_tally(&self, reply: &mut Reply<'_>) -> Result<(), Stop> {
         let name = self.name.as_str();
-        let tally = self.tally;
-        let sent = u8::from(self.device.has_sent());
-        let waiting = u8::from(self.device.is_waiting());
-        reply.line(format_args!("device {name} {tally} sent {sent} waiting {waiting}"))
+        let end = &self.end;
+        reply.line(format_args!("device {name} {end}"))
+    }
+}
+
+// Tells a fate.
+fn tell_fate(fate: Option<Fate>, reply: &mut Reply<'_>) -> Result<(), Stop> {
+    match fate {
+        Some(fate) => reply.line(format_args!("fate {fate:?}")),
+        None => reply.line("no fate"),
     }
 }

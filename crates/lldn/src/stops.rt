@@ -1,7 +1,7 @@
 // What keeps a line from an answer of its own.
 use crate::cargoes::Kind;
 use frame::Fault;
-use std::alloc::{AllocError, AllocFailed};
+use std::alloc::AllocError;
 use std::io;
 use thiserror::Error;
 
@@ -33,40 +33,21 @@ pub enum Obstacle {
 }
 
 // What stops a command.
-#[derive(Drop)]
+#[derive(Debug, Drop, Error)]
 pub enum Stop {
     // It is answered, and the script goes on.
-    Obstacle(Obstacle),
-    // There is no memory, or the answer cannot be written.
-    Failure(io::Error),
-}
-
-impl From<Obstacle> for Stop {
-    fn from(obstacle: Obstacle) -> Stop {
-        Stop::Obstacle(obstacle)
-    }
+    #[error(transparent)]
+    Obstacle(#[from] Obstacle),
+    // There is no memory.
+    #[error(transparent)]
+    Memory(#[from(alloc)] AllocError),
+    // The answer cannot be written.
+    #[error(transparent)]
+    Failure(#[from] io::Error),
 }
 
 impl From<Fault> for Stop {
     fn from(fault: Fault) -> Stop {
         Stop::Obstacle(Obstacle::Refused(fault))
-    }
-}
-
-impl From<io::Error> for Stop {
-    fn from(error: io::Error) -> Stop {
-        Stop::Failure(error)
-    }
-}
-
-impl From<AllocError> for Stop {
-    fn from(error: AllocError) -> Stop {
-        Stop::Failure(error.into())
-    }
-}
-
-impl<T: Drop> From<AllocFailed<T>> for Stop {
-    fn from(failed: AllocFailed<T>) -> Stop {
-        Stop::Failure(failed.into())
     }
 }

@@ -6,40 +6,34 @@ use hexadecimal::Hex;
 use plan::{Grant, Grants, SlotPlan};
 use times::{beacon_symbols, grant_time, superframe_symbols, to_microseconds};
 
-// Who holds a timeslot.
-pub fn holder(plan: &AnyPlan, t: u8, reply: &mut Reply<'_>) -> Result<(), Stop> {
-    match plan.holder(t) {
-        Some(i) => reply.line(format_args!("grant {i}")),
-        None => reply.line("none"),
+impl AnyPlan {
+    // Tells the beacon, each grant, and the whole superframe.
+    pub fn tell_timetable(&self, reply: &mut Reply<'_>) -> Result<(), Stop> {
+        let beacon = beacon_symbols(self.numbers());
+        reply.line(format_args!("beacon symbols 0 to {beacon}"))?;
+        for (i, grant) in Grants::of(self) {
+            self.tell_grant(i, grant, reply)?;
+        }
+        let symbols = superframe_symbols(self);
+        let microseconds = to_microseconds(symbols);
+        reply.line(format_args!("superframe symbols {symbols} microseconds {microseconds}"))
     }
-}
 
-// The beacon, each grant, and the whole superframe.
-pub fn timetable(plan: &AnyPlan, reply: &mut Reply<'_>) -> Result<(), Stop> {
-    let beacon = beacon_symbols(plan.numbers());
-    reply.line(format_args!("beacon symbols 0 to {beacon}"))?;
-    for (i, grant) in Grants::of(plan) {
-        grant_line(plan, i, grant, reply)?;
+    // Tells grant i, if it has a time.
+    fn tell_grant(&self, i: usize, grant: Grant, reply: &mut Reply<'_>) -> Result<(), Stop> {
+        let Some((start, end)) = grant_time(self, i) else {
+            return Ok(());
+        };
+        let numbers = self.numbers();
+        let address = grant.address.to_be_bytes();
+        let direction = grant.direction(numbers);
+        let simple = grant.simple;
+        let first = grant.first;
+        let last = last(first, grant.width);
+        let carried = grant.carries(numbers.size);
+        reply.line(format_args!(
+            "grant {i} address {} simple {simple} {direction} timeslots {first} to {last} symbols {start} to {end} carries {carried}",
+            Hex(&address)
+        ))
     }
-    let symbols = superframe_symbols(plan);
-    let microseconds = to_microseconds(symbols);
-    reply.line(format_args!("superframe symbols {symbols} microseconds {microseconds}"))
-}
-
-// Grant i, if it has a time.
-fn grant_line(plan: &AnyPlan, i: usize, grant: Grant, reply: &mut Reply<'_>) -> Result<(), Stop> {
-    let Some((start, end)) = grant_time(plan, i) else {
-        return Ok(());
-    };
-    let numbers = plan.numbers();
-    let address = grant.address.to_be_bytes();
-    let direction = grant.direction(numbers);
-    let simple = grant.simple;
-    let first = grant.first;
-    let last = last(first, grant.width);
-    let carried = grant.carries(numbers.size);
-    reply.line(format_args!(
-        "grant {i} address {} simple {simple} {direction} timeslots {first} to {last} symbols {start} to {end} carries {carried}",
-        Hex(&address)
-    ))
 }

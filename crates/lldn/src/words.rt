@@ -1,6 +1,4 @@
 // The words of a line, and the values that they stand for.
-ghost use Rattle.std.specs.Prelude.{◌≡◌};
-
 use crate::octets::Octets;
 use hexadecimal::HexLine;
 use std::num::ParseIntError;

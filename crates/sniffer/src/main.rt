@@ -25,7 +25,7 @@ impl Capture {
         }
     }
 
-    // Takes one byte more.
+    // Takes one byte more. Lines are cut and numbered here, since the input is taken in full buffers (see `take_all`).
     fn take(&mut self, byte: u8) -> io::Result<()> {
         if byte != b'\n' {
             self.line.push(byte);

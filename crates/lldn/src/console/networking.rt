@@ -6,13 +6,12 @@ use crate::networks::AnyNetwork;
 use crate::orders::Order;
 use crate::reply::Reply;
 use crate::stops::{Obstacle, Stop};
-use std::mem;
 
 impl Console {
     // Sets the kind of cargo; the network that was made before is gone.
     pub fn carry(&mut self, kind: Kind, reply: &mut Reply<'_>) -> Result<(), Stop> {
         self.kind = kind;
-        end(mem::replace(&mut self.network, None));
+        end(self.network.take());
         reply.line(format_args!("cargo {kind}"))
     }
 
@@ -21,7 +20,7 @@ impl Console {
         let plan = self.accepted()?.plan.again(self.heap)?;
         let network = AnyNetwork::new(self.heap, self.kind, plan);
         let mode = network.mode();
-        end(mem::replace(&mut self.network, Some(network)));
+        end(self.network.replace(network));
         reply.line(format_args!("coordinator {mode:?}"))
     }
 
@@ -37,10 +36,8 @@ impl Console {
             return Err(Obstacle::NotUnderstood.into());
         }
         self.accepted()?;
-        match &mut self.network {
-            Some(network) => network.run(order, reply),
-            None => Err(Obstacle::NoCoordinator.into()),
-        }
+        let network = self.network.as_mut().ok_or(Obstacle::NoCoordinator)?;
+        network.run(order, reply)
     }
 }
 
