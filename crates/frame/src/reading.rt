@@ -99,7 +99,7 @@ fn address(octets: &[u8]) -> u64
     u64::from_le_bytes(eight)
 }
 
-// The wish whose width stands at an index and whose direction stands at the next one.
+// The wish whose width stands at an index and whose direction stands at the next one. Octets and index stand as two, as at `part`.
 fn wish(octets: &[u8], from: usize) -> Result<Wish, Fault>
     requires { from + 1 < length octets.now }
     ensures { result ≡ wish_at from octets.now }

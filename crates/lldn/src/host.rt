@@ -56,6 +56,7 @@ impl Host {
     pub fn open(&mut self, buffer: &mut [u8]) -> Result<Begun, Fault> {
         let Opened { length, superframe } = self.coordinator.open(buffer)?;
         let number = superframe.number();
+        // A match with `unreachable`: an open superframe cannot be let go, and `own` says that the other arm is never reached.
         match self.held.replace(superframe) {
             None => Ok(Begun { number, length }),
             Some(_) => unreachable(),
@@ -82,6 +83,7 @@ impl Host {
     pub fn close(&mut self) -> Option<u32> {
         let superframe = self.held.take()?;
         let number = superframe.number();
+        // As in `open`: an open superframe cannot be let go, and `own` says that the other arm is never reached.
         match self.coordinator.close(superframe) {
             Ok(()) => Some(number),
             Err(_) => unreachable(),
@@ -95,6 +97,7 @@ impl Host {
             held,
         } = self;
         if let Some(superframe) = held {
+            // As in `open`.
             match coordinator.close(superframe) {
                 Ok(()) => {}
                 Err(_) => unreachable(),

@@ -92,7 +92,7 @@ pub enum FrameWord<'a> {
     Device(&'a str),
 }
 
-// An order and the words that it takes.
+// An order and the words that it takes; the command was taken from them already.
 pub fn order_in<'a>(words: &mut Words<'a>, command: &str) -> Option<Order<'a>> {
     match command {
         "beacon" => Some(to(words.name()?, DeviceOrder::Beacon(frame(words)?))),

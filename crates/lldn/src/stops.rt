@@ -46,6 +46,7 @@ pub enum Stop {
     Failure(#[from] io::Error),
 }
 
+// By hand, since a fault becomes an obstacle first.
 impl From<Fault> for Stop {
     fn from(fault: Fault) -> Stop {
         Stop::Obstacle(Obstacle::Refused(fault))
