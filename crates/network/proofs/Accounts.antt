@@ -9,7 +9,7 @@ use Rattle.plan.specs.Rules.{PlanMeaning}
 use Rattle.network.specs.Deeds.{Deed, opening, closing, hand_up, reply, news, acceptance, transmission, taking, nothing}
 use Rattle.network.specs.History.{numbered, Among, Telling, Arrival, told, arrivals}
 use Rattle.network.specs.Runs.{Devices}
-use Rattle.network.specs.Guarantee.{Falling, simple_of, OwnFramesCarryTheirAcceptances, RepeatsCarryWhatWasToldRepeated, DeviceGuaranteed}
+use Rattle.network.specs.Guarantee.{Falling, simple_of, OwnFramesCarryTheirAcceptances, RepeatsCarryWhatWasToldRepeated, EveryArrivalIsOfAFrameOfItsDevice, OneOwnFrameAndOneRepeatASuperframe, RepeatsComeWithTheirFate, DeviceGuaranteed}
 use Rattle.network.proofs.Books.{Line, Just, AllJust, telling_of, arrivals_of, listed, since, in_flight, count, Agrees}
 use Rattle.network.proofs.Sound.{Outside}
 
@@ -226,11 +226,18 @@ module _ {C : Type 0} where
             | inr t ↦ (let r : ◌≡◌ {A = Fate} fate.Lost fate.Repeated = sym l ∙ j.again_only t in absurd cc)
           ]
 
--- which acceptances its frames carry is no matter of the book alone, and is handed in
+-- which acceptances its frames carry, and when, is no matter of the book alone, and is handed in
+pub record Carried {C : Type 0} (image : C → List ℕ) (m : PlanMeaning) (devices : Devices) (ds : List (Deed C)) (d : ℕ) : Type 0 where
+  pub own : OwnFramesCarryTheirAcceptances m devices ds d image
+  pub again : RepeatsCarryWhatWasToldRepeated m devices ds d image
+  pub of_its_frame : EveryArrivalIsOfAFrameOfItsDevice m devices ds d
+  pub single : OneOwnFrameAndOneRepeatASuperframe m devices ds d
+  pub timely : RepeatsComeWithTheirFate m devices ds d
+
 pub from_book : {C : Type 0} (image : C → List ℕ) (m : PlanMeaning) (devices : Devices) (ds : List (Deed C)) (d : ℕ)
-    → OwnFramesCarryTheirAcceptances m devices ds d image → RepeatsCarryWhatWasToldRepeated m devices ds d image → (simple : Option ℕ) (waiting sent : Option C) (k : ℕ) (bit : Bool) (book : List (Line C))
+    → Carried image m devices ds d → (simple : Option ℕ) (waiting sent : Option C) (k : ℕ) (bit : Bool) (book : List (Line C))
     → simple_of m (devices.address d) ≡ simple → Agrees m.numbers.retransmission simple d ds waiting sent k bit book → DeviceGuaranteed m devices ds d image
-from_book {C = C} image m devices ds d own again simple waiting sent k bit book q g =
+from_book {C = C} image m devices ds d carried simple waiting sent k bit book q g =
     let arrived : arrivals m.numbers.retransmission (simple_of m (devices.address d)) d ds ≡ flown_arrivals waiting sent k bit book =
     ap (λ (s : Option ℕ). arrivals m.numbers.retransmission s d ds) q ∙ g.arrives in
     record {
@@ -247,8 +254,11 @@ from_book {C = C} image m devices ds d own again simple waiting sent k bit book 
           ));
       lost = λ i x h c y a e.
           lost_never waiting sent k bit book g.just i x (subst (λ (l : List Telling). numbered l i ≡ Some x) g.tells h) c y (subst (λ (l : List (Arrival C)). Among y l) arrived a) e;
-      own_frames_carry = own;
-      repeats_carry = again;
+      own_frames_carry = carried.own;
+      of_its_frame = carried.of_its_frame;
+      single = carried.single;
+      repeats_timely = carried.timely;
+      repeats_carry = carried.again;
     }
 
 -- without a simple address nothing arrives
@@ -270,9 +280,9 @@ none_told ts k x e h =
     absurd cc
 
 pub from_outside : {C : Type 0} (image : C → List ℕ) (m : PlanMeaning) (devices : Devices) (ds : List (Deed C)) (d : ℕ)
-    → OwnFramesCarryTheirAcceptances m devices ds d image → RepeatsCarryWhatWasToldRepeated m devices ds d image → (v : Device C)
+    → Carried image m devices ds d → (v : Device C)
     → simple_of m (devices.address d) ≡ None → Outside d v ds → DeviceGuaranteed m devices ds d image
-from_outside {C = C} image m devices ds d own again v q o =
+from_outside {C = C} image m devices ds d carried v q o =
     let r = m.numbers.retransmission in
     let arrived : arrivals r (simple_of m (devices.address d)) d ds ≡ [] = ap (λ (s : Option ℕ). arrivals r s d ds) q ∙ arrivals_none r d ds in
     record {
@@ -282,6 +292,9 @@ from_outside {C = C} image m devices ds d own again v q o =
       next_superframe = λ i x h. absurd (none_told (told d ds) i x o.no_told h);
       confirmed = λ i x h. absurd (none_told (told d ds) i x o.no_told h);
       lost = λ i x h c y a e. none_told (told d ds) i x o.no_told h;
-      own_frames_carry = own;
-      repeats_carry = again;
+      own_frames_carry = carried.own;
+      of_its_frame = carried.of_its_frame;
+      single = carried.single;
+      repeats_timely = carried.timely;
+      repeats_carry = carried.again;
     }

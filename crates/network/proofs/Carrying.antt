@@ -34,7 +34,7 @@ numbered_if : {A : Type 0} (b : Bool) (x : A) (xs : List A) (k : ℕ) (z : A) �
 numbered_if true x xs k z h = numbered_more x xs k z h
 numbered_if false x xs k z h = h
 
-numbered_telling : (b : Bool) (s : ℕ) (online : Bool) (φ : Option Fate) (ts : List Telling) (k : ℕ) (z : Telling) → numbered ts k ≡ Some z → numbered (cond b (telling s online φ ts) ts) k ≡ Some z
+pub numbered_telling : (b : Bool) (s : ℕ) (online : Bool) (φ : Option Fate) (ts : List Telling) (k : ℕ) (z : Telling) → numbered ts k ≡ Some z → numbered (cond b (telling s online φ ts) ts) k ≡ Some z
 numbered_telling true s online None ts k z h = h
 numbered_telling true s online (Some φ) ts k z h = numbered_more _ ts k z h
 numbered_telling false s online φ ts k z h = h
@@ -68,7 +68,7 @@ module _ {C : Type 0} where
   before_flying s b (Some y) x book ss flies e = let a = ap length e in let c = length-map book (λ (l : Line C). l.sent) in omega arith
 
   -- the top line of the book
-  topped : (top : Line C) (rest book : List (Line C)) (k : ℕ) → book ≡ top ∷ rest → k ≡ length book → numbered book k ≡ Some top
+  pub topped : (top : Line C) (rest book : List (Line C)) (k : ℕ) → book ≡ top ∷ rest → k ≡ length book → numbered book k ≡ Some top
   topped top rest book k is e = ap (λ (l : List (Line C)). numbered l k) is ∙ numbered_top top rest k (e ∙ ap length is)
 
   -- a line's cargo is the acceptance with its number

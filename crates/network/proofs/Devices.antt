@@ -307,6 +307,28 @@ sized true b f h j l q = absurd cc
 sized false true f h j l q = absurd cc
 sized false false f h j l q = cc
 
+-- a device that sends has cargo for its own timeslot and sent none since its news, or has a repeat that starts there
+module _ {C : Type 0} (image : C → List ℕ) (n : Numbers) (g : Grant) (t : ℕ) (v : Device C) where
+  abbrev pub Sends : Type 0
+  Sends = ((v.sent ≡ None) × (t ≡ g.first)) ⊎ ((x : C) × (v.repeat ≡ Some (record { start = t; cargo = x })))
+
+  sends_in : (turn : Turn C) (l : ℕ) → Turns image n g t v.configuration v.waiting v.sent v.repeat turn → suc l ≡ length (frame_of image turn) → Sends
+  sends_in silent l facts size = absurd cc
+  sends_in (fresh x) l facts size = inl (facts.2, facts.3)
+  sends_in (again x) l facts size = inr (x, facts)
+
+  pub sends_by : ((c : Configuration) → v.configuration ≡ Some c → c ≡ configuration_for n g) → (buffer : List ℕ) (l : ℕ) → Ok (suc l) ≡ device.send_answer image v t buffer → Sends
+  sends_by own buffer l q =
+      sends_in (device.turn image v t) l (turns_in image n g t v v.configuration own)
+      (sized (device.no_timeslot v.configuration t) (ltb (length buffer) (length (frame_of image (device.turn image v t)))) _ _ _ (suc l) q)
+
+-- a device without a configuration sends nothing
+pub sends_nothing : {C : Type 0} (image : C → List ℕ) (t : ℕ) (v : Device C) → v.configuration ≡ None → (buffer : List ℕ) (l : ℕ) → Ok (suc l) ≡ device.send_answer image v t buffer → ⊥
+sends_nothing image t v none buffer l q =
+    let size : suc l ≡ length (frame_of image (device.turn image v t)) = sized (device.no_timeslot v.configuration t) (ltb (length buffer) (length (frame_of image (device.turn image v t)))) _ _ _ (suc l) q in
+    let empty : suc l ≡ 0 = size ∙ ap (λ (c : Option Configuration). length (frame_of image (device.turn_in image v c t))) none in
+    absurd cc
+
 -- octets that were written are those that were sent
 transmitted : {C : Type 0} (e t a : ℕ) (xs buffer memory : List ℕ) (l : ℕ) → l ≡ suc (length xs) → memory ≡ left_by (Ok l) (a ∷ xs) buffer → ◌≡◌ {A = Deed C} (sent_deed e t l memory) (transmission e t (a ∷ xs))
 transmitted e t a xs buffer memory l q p =

@@ -1,11 +1,11 @@
 -- What holds after every run.
-use Rattle.std.proofs.Common.{◌≡◌, ℕ, zero, suc, ◌<◌, ◌≤◌, true, false, eqb, List, [], ◌∷◌, length, take, is_some, Some, None, Ok, Err, Option, Result, sym, refl, ap, ◌∙◌, subst, inl, inr}
+use Rattle.std.proofs.Common.{◌≡◌, ℕ, zero, suc, ◌<◌, ◌≤◌, true, false, cond, eqb, List, [], ◌∷◌, length, take, is_some, Some, None, Ok, Err, Option, Result, sym, refl, ap, ◌∙◌, subst, inl, inr}
 use Rattle.std.specs.Option.{option_map}
 use Rattle.std.proofs.lemmas.Bool.{cases_eq, eq-eqb, ne_eqb}
 use Rattle.frame.specs.declared.faults.Fault.{Fault}
 use Rattle.plan.specs.declared.grant.Grant.{Grant}
 use Rattle.plan.specs.Rules.{PlanMeaning, Rules, grant_at}
-use Rattle.plan.proofs.Lawful.{names_addressed}
+use Rattle.plan.proofs.Lawful.{addresses_differ, names_addressed}
 use Rattle.cargo.specs.Images.{Apart}
 use Rattle.cargo.specs.Passing.{Receives}
 use Rattle.coordinator.specs.declared.state.Heard.{Heard}
@@ -19,11 +19,13 @@ use Rattle.device.specs.Steps as device
 use Rattle.network.specs.Calls.{Call, set_mode, opens, hears, hears_management, closes, takes_beacon, misses_beacon, is_offered, sends, writes_management, takes_management, device_after, Answers}
 use Rattle.network.specs.Deeds.{Deed, opening, closing, hand_up, reply, news, acceptance, transmission, taking, nothing, deed}
 use Rattle.network.specs.History.{Among, Sending, announced, sendings, senders}
-use Rattle.network.specs.Guarantee.{grant_of, simple_of, Guaranteed, DeviceGuaranteed, Guarantee}
+use Rattle.network.specs.Guarantee.{grant_of, simple_of, DeviceTellsWhatItHolds, Guaranteed, DeviceGuaranteed, Guarantee}
 use Rattle.network.specs.Runs.{Devices, Different, Present, OnAir, KeepsRules, deeds, hall, Run}
-use Rattle.network.proofs.Accounts.{from_book, from_outside}
+use Rattle.network.proofs.Accounts.{Carried, from_book, from_outside}
 use Rattle.network.proofs.Addresses.{address_of}
+use Rattle.network.proofs.Books.{count}
 use Rattle.network.proofs.Carrying.{Carries, begun_carries, next_carries}
+use Rattle.network.proofs.Crediting.{Credits, Grounds, begun_credits, next_credits}
 use Rattle.network.proofs.Devices as DevicesKeep
 use Rattle.network.proofs.Devices.{open_now}
 use Rattle.network.proofs.Hearing.{grant_found, heard_of, heard_elsewhere}
@@ -69,6 +71,7 @@ module _ {C : Type 0} (image : C → List ℕ) (short : (x : C) → length (imag
     -- the device that sent it has the grant that was listened to
     pub record Sender : Type 0 where
       pub device : ℕ
+      pub is : air.0.device ≡ device
       pub there : device < devices.count
       pub found : grant_of m (devices.address device) ≡ Some g
       pub after : After (Some g) device
@@ -79,7 +82,7 @@ module _ {C : Type 0} (image : C → List ℕ) (short : (x : C) → length (imag
         let w = grant_found m rules (devices.address d) h found in
         let p = heard_of image m rules short apart (steadily.marked_own m rules) (steadily.marked_other m rules) d w.0 h w.1 k (v d) ds steady opened s t xs above air.0 air.1 is air.2 air.3 air.4 x received in
         let same : h ≡ g = cc in
-        record { device = d; there = there; found = found ∙ ap Some same; after = subst (λ (z : Grant). Standing image m.numbers d (Some z) (coordinator.accepted m.numbers k t (Some z)) (v d) (hand_up t xs z.simple x ∷ ds)) same p.1 }
+        record { device = d; is = is; there = there; found = found ∙ ap Some same; after = subst (λ (z : Grant). Standing image m.numbers d (Some z) (coordinator.accepted m.numbers k t (Some z)) (v d) (hand_up t xs z.simple x ∷ ds)) same p.1 }
 
     sender : Sender
     sender = let there = facts.present air.0 air.1 in sent_by air.0.device there (grant_of m (devices.address air.0.device)) refl (standing air.0.device there) refl
@@ -106,6 +109,18 @@ module _ {C : Type 0} (image : C → List ℕ) (short : (x : C) → length (imag
             let also : grant_at m b.0 ≡ Some g = subst (λ (z : ℕ). grant_at m z ≡ Some g) same a.1 in
             let grants : g ≡ h = cc in
             differ (different sender.device e sender.there there (sym a.2 ∙ ap (λ (z : Grant). z.address) grants ∙ b.2))
+
+    -- a device with the simple address that is told is the one that sent it
+    its_sender : (e : ℕ) → e < devices.count → (o : Option Grant) → grant_of m (devices.address e) ≡ o → option_map (λ (h : Grant). h.simple) o ≡ Some g.simple → air.0.device ≡ e
+    its_sender e there None found simple = absurd cc
+    its_sender e there (Some h) found simple =
+        let a = grant_found m rules (devices.address sender.device) g sender.found in
+        let b = grant_found m rules (devices.address e) h found in
+        let alike : g.simple ≡ h.simple = cc in
+        let number = addresses_differ m rules a.0 b.0 g h a.1 b.1 (inr alike) in
+        let also : grant_at m b.0 ≡ Some g = subst (λ (z : ℕ). grant_at m z ≡ Some g) number a.1 in
+        let grants : g ≡ h = cc in
+        sender.is ∙ different sender.device e sender.there there (sym a.2 ∙ ap (λ (z : Grant). z.address) grants ∙ b.2)
 
     heard_standing : (e : ℕ) → e < devices.count → After (grant_of m (devices.address e)) e
     heard_standing e there = elim (cases_eq sender.device e) [
@@ -264,6 +279,47 @@ module _ {C : Type 0} (image : C → List ℕ) (short : (x : C) → length (imag
       facts = same_facts m devices ds (nothing ∷ ds) refl refl h.facts;
     }
 
+    -- a frame is sent by a device that has a grant, in its turn
+    sends_grounded : (d t : ℕ) (buffer : List ℕ) (l : ℕ) (memory : List ℕ) → Ok (suc l) ≡ device.send_answer image (v d) t buffer → (e : ℕ) → e < devices.count → Grounds image m devices e (v e) ds (transmission d t (take (suc l) memory))
+    sends_grounded d t buffer l memory is e there same =
+        by_grant (grant_for e) refl (h.standing e there)
+      where
+        here : Ok (suc l) ≡ device.send_answer image (v e) t buffer
+        here = subst (λ (z : ℕ). Ok (suc l) ≡ device.send_answer image (v z) t buffer) same is
+
+        by_grant : (o : Option Grant) → grant_for e ≡ o → Standing image m.numbers e o k (v e) ds → (g : Grant) × (grant_for e ≡ Some g) × DevicesKeep.Sends image m.numbers g t (v e)
+        by_grant None found s = absurd (DevicesKeep.sends_nothing image t (v e) s.unconfigured buffer l here)
+        by_grant (Some g) found s = (g, found, DevicesKeep.sends_by image m.numbers g t (v e) s.configured buffer l here)
+
+    -- what is heard under the simple address of a device was sent by it
+    hears_grounded : (j t : ℕ) (xs : List ℕ) (x : Heard C) → coordinator.Hears image m k j t xs (Ok x) → OnAir ds t xs → (e : ℕ) → e < devices.count → Grounds image m devices e (v e) ds (hand_up t xs x.simple x.cargo)
+    hears_grounded j t xs x is air e there simple =
+        let w = steadily.heard_tells image m k j t xs x is in
+        let its = its_sender k v ds h.steady h.standing h.facts t xs x.cargo w.0 w.1 w.2 w.3 w.5 air e there (grant_for e) refl (simple ∙ ap Some w.4) in
+        (air.0, air.1, its, air.2, air.3, air.4)
+
+    grounded : (c : Call C) → Answers image m (hall image m devices cs) c → KeepsRules devices.count ds (deed c) → (e : ℕ) → e < devices.count → Grounds image m devices e (v e) ds (deed c)
+    grounded (set_mode mode r) is keeps e there = tt
+    grounded (opens buffer (Ok o) memory) is keeps e there = tt
+    grounded (opens buffer (Err f) memory) is keeps e there = tt
+    grounded (hears j t xs (Ok x)) is keeps e there = hears_grounded j t xs x is keeps e there
+    grounded (hears j t xs (Err f)) is keeps e there = tt
+    grounded (hears_management j xs buffer (Ok l) memory) is keeps e there = tt
+    grounded (hears_management j xs buffer (Err f) memory) is keeps e there = tt
+    grounded (closes j (Ok u)) is keeps e there = tt
+    grounded (closes j (Err f)) is keeps e there = tt
+    grounded (takes_beacon d xs (Ok φ)) is keeps e there = tt
+    grounded (takes_beacon d xs (Err f)) is keeps e there = tt
+    grounded (misses_beacon d r) is keeps e there = tt
+    grounded (is_offered d x (Ok u)) is keeps e there = tt
+    grounded (is_offered d x (Err f)) is keeps e there = tt
+    grounded (sends d t buffer (Ok zero) memory) is keeps e there = tt
+    grounded (sends d t buffer (Ok (suc l)) memory) is keeps e there = sends_grounded d t buffer l memory is.0 e there
+    grounded (sends d t buffer (Err f) memory) is keeps e there = tt
+    grounded (writes_management d buffer r memory) is keeps e there = tt
+    grounded (takes_management d xs (Ok u)) is keeps e there = tt
+    grounded (takes_management d xs (Err f)) is keeps e there = tt
+
     next : (c : Call C) → Answers image m (hall image m devices cs) c → Present devices.count c → KeepsRules devices.count ds (deed c) → Holding (c ∷ cs)
     next (set_mode mode r) is there keeps = record {
       steady = steadily.mode_steady m k ds mode r h.steady;
@@ -339,18 +395,45 @@ module _ {C : Type 0} (image : C → List ℕ) (short : (x : C) → length (imag
       let k = (hall image m devices (c ∷ cs)).coordinator in
       next_carries image m devices e (deeds cs) (carrying cs run.0 e there) rules k ((hall image m devices (c ∷ cs)).devices e) (deed c) run.3 (opened_by m k (deeds (c ∷ cs)) h.steady) (h.standing e there)
 
-  each_by : (cs : List (Call C)) (d : ℕ) → Carries image m devices d (deeds cs) → (o : Option Grant) → grant_of m (devices.address d) ≡ o → (k : Inner) (v : Device C) → Standing image m.numbers d o k v (deeds cs) → DeviceGuaranteed m devices (deeds cs) d image
-  each_by cs d c None found k v s = from_outside image m devices (deeds cs) d c.own c.again v (ap (λ (o : Option Grant). option_map (λ (x : Grant). x.simple) o) found) s
-  each_by cs d c (Some g) found k v s = from_book image m devices (deeds cs) d c.own c.again (Some g.simple) v.waiting v.sent _ _ s.book (simple_found (devices.address d) g found) s.agrees
+  -- which frames its arrivals are of, and when it sends, by what holds before each call
+  crediting : (cs : List (Call C)) → Run image m devices cs → (e : ℕ) → e < devices.count → Credits image m devices e (deeds cs)
+  crediting [] run e there = begun_credits image m devices e
+  crediting (c ∷ cs) run e there =
+      let h = holding cs run.0 in
+      let k = (hall image m devices cs).coordinator in
+      next_credits image m devices e rules k ((hall image m devices cs).devices e) (deeds cs) (opened_by m k (deeds cs) h.steady) h.steady.earlier (h.standing e there) (deed c) run.3 (grounded cs h c run.1 run.3 e there) (crediting cs run.0 e there)
 
-  pub guaranteed : (cs : List (Call C)) → Run image m devices cs → Guaranteed m devices (deeds cs) image
+  carried : (cs : List (Call C)) → Run image m devices cs → (e : ℕ) → e < devices.count → Carried image m devices (deeds cs) e
+  carried cs run e there =
+      let a = carrying cs run e there in
+      let b = crediting cs run e there in
+      record { own = a.own; again = a.again; of_its_frame = b.of_its_frame; single = b.single; timely = b.timely }
+
+  each_by : (cs : List (Call C)) (d : ℕ) → Carried image m devices (deeds cs) d → (o : Option Grant) → grant_of m (devices.address d) ≡ o → (k : Inner) (v : Device C) → Standing image m.numbers d o k v (deeds cs) → DeviceGuaranteed m devices (deeds cs) d image
+  each_by cs d c None found k v s = from_outside image m devices (deeds cs) d c v (ap (λ (o : Option Grant). option_map (λ (x : Grant). x.simple) o) found) s
+  each_by cs d c (Some g) found k v s = from_book image m devices (deeds cs) d c (Some g.simple) v.waiting v.sent _ _ s.book (simple_found (devices.address d) g found) s.agrees
+
+  -- a count is one exactly where there is something
+  as_held : {A : Type 0} (o : Option A) → count o ≡ cond (is_some o) 1 0
+  as_held None = refl
+  as_held (Some x) = refl
+
+  tells_by : (d : ℕ) (ds : List (Deed C)) (o : Option Grant) (k : Inner) (v : Device C) → Standing image m.numbers d o k v ds → DeviceTellsWhatItHolds m devices ds d v
+  tells_by d ds None k v s = (
+    s.no_waits m.numbers.retransmission ∙ sym (ap (λ (o : Option C). cond (is_some o) 1 0) s.no_waiting),
+    s.no_since m.numbers.retransmission ∙ sym (ap (λ (o : Option C). cond (is_some o) 1 0) s.no_sent),
+  )
+  tells_by d ds (Some g) k v s = (s.agrees.waits ∙ as_held v.waiting, s.agrees.sent_since ∙ as_held v.sent)
+
+  pub guaranteed : (cs : List (Call C)) → Run image m devices cs → Guaranteed m devices (deeds cs) image (hall image m devices cs).devices
   guaranteed cs run =
       let h = holding cs run in
       record {
         takes_its_timeslot = h.facts.takes;
         exclusive = h.facts.exclusive;
         sender = h.facts.sender;
-        each = λ d there. each_by cs d (carrying cs run d there) (grant_of m (devices.address d)) refl (hall image m devices cs).coordinator ((hall image m devices cs).devices d) (h.standing d there);
+        each = λ d there. each_by cs d (carried cs run d there) (grant_of m (devices.address d)) refl (hall image m devices cs).coordinator ((hall image m devices cs).devices d) (h.standing d there);
+        tells = λ d there. tells_by d (deeds cs) (grant_of m (devices.address d)) (hall image m devices cs).coordinator ((hall image m devices cs).devices d) (h.standing d there);
       }
 
 -- the guarantee, for every lawful plan and every lawful kind of cargo

@@ -9,5 +9,6 @@ pub mod Hearing
 pub mod Placing
 pub mod Addresses
 pub mod Carrying
+pub mod Crediting
 pub mod Holds
 pub mod Example

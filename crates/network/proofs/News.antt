@@ -121,7 +121,7 @@ module _ {C : Type 0} (image : C → List ℕ) (n : Numbers) (e : ℕ) (g : Gran
       unheard = rw itself (λ o l. absurd cc);
       late = λ o l h. absurd (cc unheard);
       quiet = rw itself (λ _. unheard);
-      due = λ r h _ _. let p = repeats r h in (record { top = line (announces_online b) φ x; rest = s.book; book_is = refl; fate = p.0; cargo = sym p.1; starts = p.2 }, refl);
+      due = λ r h _ _. let p = repeats r h in (record { top = line (announces_online b) φ x; rest = s.book; book_is = refl; fate = p.0; cargo = sym p.1; starts = p.2 }, refl, omega arith);
       frames = λ o x among d k. never x among d k;
     }
 

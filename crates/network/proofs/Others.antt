@@ -81,7 +81,7 @@ module _ {C : Type 0} (image : C → List ℕ) (n : Numbers) (e : ℕ) where
     unheard = rw learns s.unheard;
     late = rw learns s.late;
     quiet = rw learns s.quiet;
-    due = rw learns s.due;
+    due = rw (learns, counts) s.due;
     frames = λ is x among here now. rw learns (s.frames is x (same.older x among here) here (now ∙ counts));
   }
 

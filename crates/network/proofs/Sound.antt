@@ -1,5 +1,5 @@
 -- What holds of both ends after every run: of each device that has a grant, of each that has none, and of the coordinator.
-use Rattle.std.proofs.Common.{◌≡◌, ℕ, ◌-◌, ◌≤◌, Bool, true, false, cond, not, ◌&&◌, ◌⊎◌, List, [], ◌∷◌, length, Some, None, Option}
+use Rattle.std.proofs.Common.{◌≡◌, ℕ, suc, ◌-◌, ◌≤◌, Bool, true, false, cond, not, ◌&&◌, ◌⊎◌, List, [], ◌∷◌, length, Some, None, Option}
 use Rattle.frame.specs.declared.frames.Acknowledged.TheVariants as acknowledged
 use Rattle.frame.specs.declared.frames.Command.TheVariants as commands
 use Rattle.frame.specs.declared.frames.Configuration.{Configuration}
@@ -73,7 +73,7 @@ module _ {C : Type 0} (image : C → List ℕ) (n : Numbers) where
     -- no bit is one without a frame
     pub quiet : v.sent ≡ None → acknowledged n (current opened (learned e ds) gathered sent) g.first ≡ false
     -- a repeat that is due
-    pub due : (r : Repeat C) → v.repeat ≡ Some r → opened ≡ true → learned e ds ≡ true → (q : ToRepeat g sent r.start r.cargo book) × (q.top.again ≡ false)
+    pub due : (r : Repeat C) → v.repeat ≡ Some r → opened ≡ true → learned e ds ≡ true → (q : ToRepeat g sent r.start r.cargo book) × (q.top.again ≡ false) × (suc q.top.sent ≡ superframes ds)
     -- the frames of this superframe
     pub frames : opened ≡ true → (x : Sending) → Among x (sendings ds) → x.device ≡ e → x.superframe ≡ superframes ds → (learned e ds ≡ true) × (OwnFrame g v x ⊎ AgainFrame g sent last v book x)
 

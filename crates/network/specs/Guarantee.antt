@@ -1,16 +1,17 @@
 -- What holds of every run of a network.
-use Rattle.std.specs.Prelude.{◌≡◌, ℕ, suc, ◌+◌, ◌<◌, ◌≤◌, true, List, [], ◌∷◌, length, Some, Option, ◌≢◌}
+use Rattle.std.specs.Prelude.{◌≡◌, ℕ, suc, ◌+◌, ◌<◌, ◌≤◌, true, false, cond, List, [], ◌∷◌, length, is_some, Some, Option, ◌≢◌}
 use Rattle.std.specs.Option.{option_map}
 use Rattle.frame.specs.Messages.{data_frame, octets_of}
 use Rattle.plan.specs.declared.grant.Grant.{Grant}
 use Rattle.plan.specs.Rules.{PlanMeaning}
 use Rattle.plan.specs.Answers.{number_with}
+use Rattle.device.specs.declared.state.Device.{Device}
 use Rattle.device.specs.declared.state.Fate.TheVariants as fate
 use Rattle.coordinator.specs.Steps.{granted}
 use Rattle.network.specs.Calls.{Call}
 use Rattle.network.specs.Deeds.{Deed}
-use Rattle.network.specs.History.{numbered, Among, Sending, Telling, Arrival, Repetition, sendings, accepted, told, own_sendings, own_frames, repeats, arrivals, senders, sent_since, waits}
-use Rattle.network.specs.Runs.{Devices, Different, deeds, Run}
+use Rattle.network.specs.History.{numbered, Among, Sending, Telling, Arrival, Repetition, Frame, sendings, accepted, told, own_sendings, own_frames, repeats, arrivals, frames, heard, senders, sent_since, waits}
+use Rattle.network.specs.Runs.{Devices, Different, deeds, hall, Run}
 
 -- the grant of the device with a full address, if the plan has one
 abbrev pub grant_of : PlanMeaning → ℕ → Option Grant
@@ -24,6 +25,11 @@ simple_of m address = option_map (λ g. g.simple) (grant_of m address)
 abbrev pub Falling : {C : Type 0} → List (Arrival C) → Type 0
 Falling [] = Unit {0}
 Falling (x ∷ xs) = ((y : Arrival _) → Among y xs → y.number < x.number) × Falling xs
+
+-- frames, the newest first, of which no two of one superframe are both of the own timeslot, or both repeats
+abbrev pub Single : List Frame → Type 0
+Single [] = Unit {0}
+Single (x ∷ xs) = ((y : Frame) → Among y xs → y.superframe ≡ x.superframe → y.own ≢ x.own) × Single xs
 
 module _ {C : Type 0} (m : PlanMeaning) (devices : Devices) (ds : List (Deed C)) where
   -- a frame takes the base timeslots of its sender's grant, from the one on in which it was sent
@@ -56,9 +62,32 @@ module _ {C : Type 0} (m : PlanMeaning) (devices : Devices) (ds : List (Deed C))
     abbrev pub ArrivalsComeInOrder : Type 0
     ArrivalsComeInOrder = Falling arrivals_of_device
 
+    -- the frames that it sent
+    abbrev pub frames_of_device : List Frame
+    frames_of_device = frames m.numbers.retransmission d ds
+
+    -- what is handed up under its address was read out of a frame that this device sent in that timeslot of that superframe, and has the
+    -- number of the acceptance which that frame carries
+    abbrev pub EveryArrivalIsOfAFrameOfItsDevice : Type 0
+    EveryArrivalIsOfAFrameOfItsDevice = (x : Frame) → Among x (heard m.numbers.retransmission (simple_of m (devices.address d)) d ds) → Among x frames_of_device
+
+    -- in a superframe it sends once in its own timeslot at most, and one repeat at most
+    abbrev pub OneOwnFrameAndOneRepeatASuperframe : Type 0
+    OneOwnFrameAndOneRepeatASuperframe = Single frames_of_device
+
+    -- a repeat is sent in the superframe in which its acceptance is told Repeated
+    abbrev pub RepeatsComeWithTheirFate : Type 0
+    RepeatsComeWithTheirFate =
+        (x : Frame) → Among x frames_of_device → x.own ≡ false → (y : Telling) × (numbered (told d ds) x.number ≡ Some y) × (y.fate ≡ fate.Repeated) × (y.superframe ≡ x.superframe)
+
     abbrev pub AcceptancesAreAccountedFor : Type 0
     AcceptancesAreAccountedFor =
         length (accepted d ds) ≡ length (told d ds) + sent_since m.numbers.retransmission d ds + waits m.numbers.retransmission d ds
+
+    -- the account's cargo that waits, and that was sent and has no fate yet, is what the device itself says of these
+    abbrev pub DeviceTellsWhatItHolds : Device C → Type 0
+    DeviceTellsWhatItHolds v =
+        (waits m.numbers.retransmission d ds ≡ cond (is_some v.waiting) 1 0) × (sent_since m.numbers.retransmission d ds ≡ cond (is_some v.sent) 1 0)
 
     -- the fate of acceptance k is told in the superframe after the one in which it was sent in its own timeslot
     abbrev pub FatesComeWithTheNextSuperframe : Type 0
@@ -102,14 +131,19 @@ module _ {C : Type 0} (m : PlanMeaning) (devices : Devices) (ds : List (Deed C))
         pub confirmed : ConfirmedExactlyWhenHandedUp
         pub lost : NothingLostIsHandedUp
         pub own_frames_carry : OwnFramesCarryTheirAcceptances
+        pub of_its_frame : EveryArrivalIsOfAFrameOfItsDevice
+        pub single : OneOwnFrameAndOneRepeatASuperframe
+        pub repeats_timely : RepeatsComeWithTheirFate
         pub repeats_carry : RepeatsCarryWhatWasToldRepeated
 
-  pub record Guaranteed (image : C → List ℕ) : Type 0 where
+  -- what holds of a run, which left the devices as `v`
+  pub record Guaranteed (image : C → List ℕ) (v : ℕ → Device C) : Type 0 where
     pub takes_its_timeslot : EveryFrameTakesItsTimeslot
     pub exclusive : NoTwoDevicesShareATimeslot
     pub sender : EverySenderIsADevice
     pub each : (d : ℕ) → d < devices.count → DeviceGuaranteed d image
+    pub tells : (d : ℕ) → d < devices.count → DeviceTellsWhatItHolds d (v d)
 
 -- every run, of any calls and losses, with any number of devices of different full addresses
 abbrev pub Guarantee : {C : Type 0} → (C → List ℕ) → PlanMeaning → Type 0
-Guarantee {C = C} image m = (devices : Devices) → Different devices → (cs : List (Call C)) → Run image m devices cs → Guaranteed m devices (deeds cs) image
+Guarantee {C = C} image m = (devices : Devices) → Different devices → (cs : List (Call C)) → Run image m devices cs → Guaranteed m devices (deeds cs) image (hall image m devices cs).devices

@@ -38,6 +38,22 @@ pub record Repetition : Type 0 where
   pub number : ℕ
   pub octets : List ℕ
 
+-- a data frame of a device: the number of the acceptance that it carries, whether it is of the device's own timeslot or else a repeat,
+-- in which superframe of the run, at which timeslot, and its octets
+pub record Frame : Type 0 where
+  pub number : ℕ
+  pub own : Bool
+  pub superframe : ℕ
+  pub timeslot : ℕ
+  pub octets : List ℕ
+
+-- a frame at timeslot t: up to R it is a repeat, of acceptance `again`, and above R it is of acceptance `fresh`
+abbrev pub frame_at : ℕ → ℕ → ℕ → ℕ → ℕ → List ℕ → Frame
+frame_at r t again fresh k xs =
+    cond (nat_le t r)
+    (record { number = again; own = false; superframe = k; timeslot = t; octets = xs })
+    (record { number = fresh; own = true; superframe = k; timeslot = t; octets = xs })
+
 -- whether a beacon's octets announce Online: the state code in bits 0 to 2 of the second octet is 0
 abbrev pub announces_online : Option (List ℕ) → Bool
 announces_online None = false
@@ -201,6 +217,36 @@ module _ {C : Type 0} where
   arrivals r address e (transmission d t xs ∷ ds) = arrivals r address e ds
   arrivals r address e (taking d xs ∷ ds) = arrivals r address e ds
   arrivals r address e (nothing ∷ ds) = arrivals r address e ds
+
+  -- the data frames that device e sent: above R each is of the next acceptance, and up to R of the one whose fate the device told last
+  abbrev pub frames : ℕ → ℕ → List (Deed C) → List Frame
+  frames r e [] = []
+  frames r e (opening xs ∷ ds) = frames r e ds
+  frames r e (closing ∷ ds) = frames r e ds
+  frames r e (hand_up t xs simple x ∷ ds) = frames r e ds
+  frames r e (reply xs ∷ ds) = frames r e ds
+  frames r e (news d b told ∷ ds) = frames r e ds
+  frames r e (acceptance d x ∷ ds) = frames r e ds
+  frames r e (transmission d t xs ∷ ds) = cond (d == e) (frame_at r t (length (told e ds)) (suc (length (own_sendings r e ds))) (superframes ds) xs ∷ frames r e ds) (frames r e ds)
+  frames r e (taking d xs ∷ ds) = frames r e ds
+  frames r e (nothing ∷ ds) = frames r e ds
+
+  -- the data frames that were heard of device e, under its simple address: one for each arrival, with the same number
+  abbrev pub heard : ℕ → Option ℕ → ℕ → List (Deed C) → List Frame
+  heard r address e [] = []
+  heard r address e (opening xs ∷ ds) = heard r address e ds
+  heard r address e (closing ∷ ds) = heard r address e ds
+  heard r None e (hand_up t xs simple x ∷ ds) = heard r None e ds
+  heard r (Some address) e (hand_up t xs simple x ∷ ds) =
+      cond (simple == address)
+      (frame_at r t (length (told e ds)) (length (own_sendings r e ds)) (superframes ds) xs ∷ heard r (Some address) e ds)
+      (heard r (Some address) e ds)
+  heard r address e (reply xs ∷ ds) = heard r address e ds
+  heard r address e (news d b told ∷ ds) = heard r address e ds
+  heard r address e (acceptance d x ∷ ds) = heard r address e ds
+  heard r address e (transmission d t xs ∷ ds) = heard r address e ds
+  heard r address e (taking d xs ∷ ds) = heard r address e ds
+  heard r address e (nothing ∷ ds) = heard r address e ds
 
   -- the simple addresses under which cargo was handed up
   abbrev pub senders : List (Deed C) → List ℕ
