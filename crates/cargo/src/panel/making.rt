@@ -1,5 +1,5 @@
 // Panels and their inputs.
-ghost use Rattle.std.specs.Prelude.{◌≡◌, ◌^◌, ◌<◌, ◌≤◌, false, ◌&&◌, leb, length, if◌then◌else◌, Some, None, nat_le, nat_lt, slice_index_or, slice_set};
+ghost use Rattle.std.specs.Prelude.{◌≡◌, ◌^◌, ◌<◌, ◌≤◌, false, ◌&&◌, length, if◌then◌else◌, Some, None, nat_le, nat_lt, slice_index_or, slice_set};
 ghost use Rattle.std.specs.Option.{option_map};
 ghost use Rattle.cargo.specs.Inputs.{inputs_in};
 ghost use Rattle.cargo.specs.Panels.{inputs_of};
@@ -21,7 +21,7 @@ fn number_of(inputs: &[bool]) -> u64
 impl Panel {
     // A panel with these inputs, or none where there is no input or more than 64.
     pub fn new(inputs: &[bool]) -> Option<Panel>
-        ensures { option_map inputs_of result ≡ (if leb 1 (length inputs.now) && nat_le (length inputs.now) 64 then Some inputs.now else None) }
+        ensures { option_map inputs_of result ≡ (if nat_le 1 (length inputs.now) && nat_le (length inputs.now) 64 then Some inputs.now else None) }
     {
         // Not `then`: a closure that makes a panel needs a contract of its own.
         if !(1..=64).contains(&inputs.len()) {
