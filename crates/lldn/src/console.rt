@@ -1,5 +1,7 @@
 // The console's state, and what it answers.
 mod networking;
+#[cfg(test)]
+mod tests;
 
 use crate::cargoes::{Kind, image, read};
 use crate::networks::AnyNetwork;
