@@ -1,5 +1,5 @@
 -- Which frame an arrival was read out of, and in which superframes frames are sent.
-use Rattle.std.proofs.Common.{◌≡◌, ℕ, suc, ◌<◌, ◌≤◌, Bool, true, false, not, eqb, leb, List, [], ◌∷◌, length, is_some, Some, None, Option, sym, refl, ap, ◌∙◌, subst, inl, inr, ⊎_elim, arith}
+use Rattle.std.proofs.Common.{◌≡◌, ℕ, suc, ◌<◌, ◌≤◌, Bool, true, false, cond, not, eqb, leb, List, [], ◌∷◌, length, is_some, Some, None, Option, sym, refl, ap, ◌∙◌, subst, inl, inr, ⊎_elim, arith}
 use lib.ListN.{length-map}
 use Rattle.std.proofs.lemmas.Bool.{both_ways, cases_eq, cond_both, cond-true, cond-false, eq-eqb, eqb-true, ne_eqb, le-leb, lt-leb}
 use Rattle.plan.specs.declared.grant.Grant.{Grant}
@@ -10,8 +10,8 @@ use Rattle.coordinator.specs.declared.state.Inner.{Inner}
 use Rattle.device.specs.declared.state.Device.{Device}
 use Rattle.device.specs.declared.state.Fate.{Fate}
 use Rattle.network.specs.Deeds.{Deed, opening, closing, hand_up, reply, news, acceptance, transmission, taking, nothing}
-use Rattle.network.specs.History.{numbered, Among, Sending, Telling, Frame, frame_at, superframes, announced, learned, sendings, told, own_sendings, frames, heard}
-use Rattle.network.specs.Guarantee.{grant_of, simple_of, EveryArrivalIsOfAFrameOfItsDevice, OneOwnFrameAndOneRepeatASuperframe, RepeatsComeWithTheirFate}
+use Rattle.network.specs.History.{numbered, Among, Sending, Telling, Arrival, Frame, frame_at, superframes, announced, learned, sendings, told, own_sendings, arrivals, frames, heard}
+use Rattle.network.specs.Guarantee.{Paired, grant_of, simple_of, OneOwnFrameAndOneRepeatASuperframe, RepeatsComeWithTheirFate}
 use Rattle.network.specs.Runs.{Devices, KeepsRules}
 use Rattle.network.proofs.Accounts.{numbered_map}
 use Rattle.network.proofs.Books.{telling_of}
@@ -23,6 +23,26 @@ use Rattle.network.proofs.Sound.{Sound, OwnFrame, AgainFrame, Standing}
 -- a repeat has the same number whatever was sent in the own timeslot, and a frame of that whatever was told
 repeat_alike : (r t a f g k : ℕ) (xs : List ℕ) → leb t r ≡ true → frame_at r t a f k xs ≡ frame_at r t a g k xs
 repeat_alike r t a f g k xs low = cond-true _ _ _ low ∙ sym (cond-true _ _ _ low)
+
+-- arrivals and the frames heard grow together
+paired_more : {C : Type 0} (b c : Bool) (y z : Arrival C) (f g : Frame) (ys : List (Arrival C)) (xs : List Frame) → (y.number ≡ f.number) × (y.own ≡ f.own) → (z.number ≡ g.number) × (z.own ≡ g.own)
+    → Paired ys xs → Paired (cond b (cond c (y ∷ ys) (z ∷ ys)) ys) (cond b (cond c f g ∷ xs) xs)
+paired_more true true y z f g ys xs p q rest = (p.0, p.1, rest)
+paired_more true false y z f g ys xs p q rest = (q.0, q.1, rest)
+paired_more false c y z f g ys xs p q rest = rest
+
+pub paired : {C : Type 0} (r : ℕ) (o : Option ℕ) (e : ℕ) (ds : List (Deed C)) → Paired (arrivals r o e ds) (heard r o e ds)
+paired r o e [] = tt
+paired r o e (opening xs ∷ ds) = paired r o e ds
+paired r o e (closing ∷ ds) = paired r o e ds
+paired r None e (hand_up t xs simple x ∷ ds) = paired r None e ds
+paired r (Some a) e (hand_up t xs simple x ∷ ds) = paired_more (eqb simple a) (leb t r) _ _ _ _ (arrivals r (Some a) e ds) (heard r (Some a) e ds) (refl, refl) (refl, refl) (paired r (Some a) e ds)
+paired r o e (reply xs ∷ ds) = paired r o e ds
+paired r o e (news d b told ∷ ds) = paired r o e ds
+paired r o e (acceptance d x ∷ ds) = paired r o e ds
+paired r o e (transmission d t xs ∷ ds) = paired r o e ds
+paired r o e (taking d xs ∷ ds) = paired r o e ds
+paired r o e (nothing ∷ ds) = paired r o e ds
 
 module _ {C : Type 0} (image : C → List ℕ) (m : PlanMeaning) (devices : Devices) (e : ℕ) where
   abbrev r : ℕ
@@ -40,7 +60,7 @@ module _ {C : Type 0} (image : C → List ℕ) (m : PlanMeaning) (devices : Devi
     -- what it sent in this superframe came after its news, and is what is heard of it now
     pub now : (y : Sending) → Among y (sendings ds) → y.device ≡ e → y.superframe ≡ superframes ds → (learned e ds ≡ true) × Among (framed ds y) (frames r e ds)
     pub sent : (x : Frame) → Among x (frames r e ds) → SentAs ds x
-    pub of_its_frame : EveryArrivalIsOfAFrameOfItsDevice m devices ds e
+    pub of_its_frame : (x : Frame) → Among x (heard r (simple_of m (devices.address e)) e ds) → Among x (frames r e ds)
     pub single : OneOwnFrameAndOneRepeatASuperframe m devices ds e
     pub timely : RepeatsComeWithTheirFate m devices ds e
 

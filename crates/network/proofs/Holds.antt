@@ -25,7 +25,7 @@ use Rattle.network.proofs.Accounts.{Carried, from_book, from_outside}
 use Rattle.network.proofs.Addresses.{address_of}
 use Rattle.network.proofs.Books.{count}
 use Rattle.network.proofs.Carrying.{Carries, begun_carries, next_carries}
-use Rattle.network.proofs.Crediting.{Credits, Grounds, begun_credits, next_credits}
+use Rattle.network.proofs.Crediting.{Credits, Grounds, begun_credits, next_credits, paired}
 use Rattle.network.proofs.Devices as DevicesKeep
 use Rattle.network.proofs.Devices.{open_now}
 use Rattle.network.proofs.Hearing.{grant_found, heard_of, heard_elsewhere}
@@ -407,7 +407,7 @@ module _ {C : Type 0} (image : C → List ℕ) (short : (x : C) → length (imag
   carried cs run e there =
       let a = carrying cs run e there in
       let b = crediting cs run e there in
-      record { own = a.own; again = a.again; of_its_frame = b.of_its_frame; single = b.single; timely = b.timely }
+      record { own = a.own; again = a.again; of_its_frame = (paired m.numbers.retransmission (simple_of m (devices.address e)) e (deeds cs), b.of_its_frame); single = b.single; timely = b.timely }
 
   each_by : (cs : List (Call C)) (d : ℕ) → Carried image m devices (deeds cs) d → (o : Option Grant) → grant_of m (devices.address d) ≡ o → (k : Inner) (v : Device C) → Standing image m.numbers d o k v (deeds cs) → DeviceGuaranteed m devices (deeds cs) d image
   each_by cs d c None found k v s = from_outside image m devices (deeds cs) d c v (ap (λ (o : Option Grant). option_map (λ (x : Grant). x.simple) o) found) s
@@ -418,12 +418,12 @@ module _ {C : Type 0} (image : C → List ℕ) (short : (x : C) → length (imag
   as_held None = refl
   as_held (Some x) = refl
 
-  tells_by : (d : ℕ) (ds : List (Deed C)) (o : Option Grant) (k : Inner) (v : Device C) → Standing image m.numbers d o k v ds → DeviceTellsWhatItHolds m devices ds d v
-  tells_by d ds None k v s = (
+  tells_by : (d : ℕ) (es : List (Deed C)) (o : Option Grant) (k : Inner) (v : Device C) → Standing image m.numbers d o k v es → DeviceTellsWhatItHolds m devices es d v
+  tells_by d es None k v s = (
     s.no_waits m.numbers.retransmission ∙ sym (ap (λ (o : Option C). cond (is_some o) 1 0) s.no_waiting),
     s.no_since m.numbers.retransmission ∙ sym (ap (λ (o : Option C). cond (is_some o) 1 0) s.no_sent),
   )
-  tells_by d ds (Some g) k v s = (s.agrees.waits ∙ as_held v.waiting, s.agrees.sent_since ∙ as_held v.sent)
+  tells_by d es (Some g) k v s = (s.agrees.waits ∙ as_held v.waiting, s.agrees.sent_since ∙ as_held v.sent)
 
   pub guaranteed : (cs : List (Call C)) → Run image m devices cs → Guaranteed m devices (deeds cs) image (hall image m devices cs).devices
   guaranteed cs run =

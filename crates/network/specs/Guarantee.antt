@@ -31,6 +31,13 @@ abbrev pub Single : List Frame → Type 0
 Single [] = Unit {0}
 Single (x ∷ xs) = ((y : Frame) → Among y xs → y.superframe ≡ x.superframe → y.own ≢ x.own) × Single xs
 
+-- arrivals and the frames that were heard belong together, one by one: each frame is of the acceptance that arrived, and of its own timeslot if that did
+abbrev pub Paired : {C : Type 0} → List (Arrival C) → List Frame → Type 0
+Paired [] [] = Unit {0}
+Paired [] (x ∷ xs) = ⊥
+Paired (y ∷ ys) [] = ⊥
+Paired (y ∷ ys) (x ∷ xs) = (y.number ≡ x.number) × (y.own ≡ x.own) × Paired ys xs
+
 module _ {C : Type 0} (m : PlanMeaning) (devices : Devices) (ds : List (Deed C)) where
   -- a frame takes the base timeslots of its sender's grant, from the one on in which it was sent
   abbrev pub Takes : Sending → ℕ → Type 0
@@ -66,10 +73,13 @@ module _ {C : Type 0} (m : PlanMeaning) (devices : Devices) (ds : List (Deed C))
     abbrev pub frames_of_device : List Frame
     frames_of_device = frames m.numbers.retransmission d ds
 
-    -- what is handed up under its address was read out of a frame that this device sent in that timeslot of that superframe, and has the
-    -- number of the acceptance which that frame carries
+    -- the frames that were heard under its address
+    abbrev pub frames_heard : List Frame
+    frames_heard = heard m.numbers.retransmission (simple_of m (devices.address d)) d ds
+
+    -- each arrival was read out of a frame that this device sent, in that timeslot of that superframe, of the acceptance that arrived
     abbrev pub EveryArrivalIsOfAFrameOfItsDevice : Type 0
-    EveryArrivalIsOfAFrameOfItsDevice = (x : Frame) → Among x (heard m.numbers.retransmission (simple_of m (devices.address d)) d ds) → Among x frames_of_device
+    EveryArrivalIsOfAFrameOfItsDevice = Paired arrivals_of_device frames_heard × ((x : Frame) → Among x frames_heard → Among x frames_of_device)
 
     -- in a superframe it sends once in its own timeslot at most, and one repeat at most
     abbrev pub OneOwnFrameAndOneRepeatASuperframe : Type 0

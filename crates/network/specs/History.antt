@@ -231,7 +231,7 @@ module _ {C : Type 0} where
   frames r e (taking d xs ∷ ds) = frames r e ds
   frames r e (nothing ∷ ds) = frames r e ds
 
-  -- the data frames that were heard of device e, under its simple address: one for each arrival, with the same number
+  -- the data frames that were heard of device e, under its simple address, with the numbers that their arrivals have
   abbrev pub heard : ℕ → Option ℕ → ℕ → List (Deed C) → List Frame
   heard r address e [] = []
   heard r address e (opening xs ∷ ds) = heard r address e ds
