@@ -38,7 +38,7 @@ pub struct Heard<C> {
     pub cargo: C,
 }
 
-// The state of a coordinator, beside its plan. It is plain and of fixed size by the project's rule, with `opened` beside the number: the guarantee of every run names these fields.
+// The state of a coordinator, beside its plan. It is plain and of fixed size, with `opened` beside the number: nothing is allocated, a close moves a bitmap across whole, and the guarantee of every run names these fields.
 #[derive(Drop)]
 pub struct Inner {
     pub(crate) mode: Mode,

@@ -33,7 +33,7 @@ pub fn beacon_symbols(numbers: Numbers) -> u32
 }
 
 // When timeslot t starts and ends, counted from the start of the beacon; refused where the plan has no such timeslot.
-// A rule of the project fixes the pair of symbol counts.
+// A pair of symbol counts: both are asked for together.
 pub fn slot_time<P: SlotPlan>(plan: &P, t: u8) -> Result<(u32, u32), Fault>
     ensures answer { result ≡ slot_span (P.SlotPlan.meaning plan.now).numbers t }
     ensures follow { FollowEachOther (P.SlotPlan.meaning plan.now).numbers }
@@ -46,7 +46,7 @@ pub fn slot_time<P: SlotPlan>(plan: &P, t: u8) -> Result<(u32, u32), Fault>
 }
 
 // When the timeslots of grant i start and end, or none where there is no such grant. A full frame ends inside them.
-// A rule of the project fixes the pair of symbol counts, as at `slot_time`.
+// A pair of symbol counts, as at `slot_time`.
 pub fn grant_time<P: SlotPlan>(plan: &P, i: usize) -> Option<(u32, u32)>
     ensures answer { result ≡ grant_span (P.SlotPlan.meaning plan.now).numbers (grant_at (P.SlotPlan.meaning plan.now) i) }
     ensures inside { FullFramesEndInside (P.SlotPlan.meaning plan.now) }

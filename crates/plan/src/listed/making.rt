@@ -21,7 +21,7 @@ impl ListedPlan {
         if !numbers.keep() || grants.len() > 128 {
             return Err(Refusal::Plan.at(0));
         }
-        // A rule of the project fixes this loop over the host's grants with their index.
+        // A loop over the host's grants with their index: the place of a broken rule is a grant's number.
         for (i, g) in grants.iter().enumerate() {
             if !g.keeps(numbers) || g.clashes_with_one(&grants[..i]) {
                 return Err(Refusal::Plan.at(i + 1));
