@@ -1,5 +1,5 @@
 -- What a device may count on, from a book that agrees with a history.
-use Rattle.std.proofs.Common.{◌≡◌, ℕ, suc, ◌+◌, ◌<◌, ◌≤◌, Bool, true, false, cond, ◌⊎◌, List, [], ◌∷◌, ◌++◌, map, length, Some, None, Option, sym, refl, ap, ◌∙◌, subst, inl, inr, true≢false, arith}
+use Rattle.std.proofs.Common.{◌≡◌, ℕ, suc, ◌+◌, ◌<◌, ◌≤◌, Bool, true, false, cond, ◌⊎◌, List, [], ◌∷◌, ◌++◌, map, length, Some, None, Option, sym, refl, ap, ◌∙◌, subst, inl, inr, ⊎_elim, true≢false, arith}
 use lib.ListN.{length-map}
 use Rattle.std.proofs.lemmas.Bool.{cases_eq, eq-eqb, ne_eqb, cond-true, cond-false}
 use Rattle.device.specs.declared.state.Device.{Device}
@@ -7,10 +7,11 @@ use Rattle.device.specs.declared.state.Fate.{Fate}
 use Rattle.device.specs.declared.state.Fate.TheVariants as fate
 use Rattle.plan.specs.Rules.{PlanMeaning}
 use Rattle.network.specs.Deeds.{Deed, opening, closing, hand_up, reply, news, acceptance, transmission, taking, nothing}
-use Rattle.network.specs.History.{numbered, Among, Telling, Arrival, told, arrivals}
+use Rattle.network.specs.History.{numbered, Among, Sending, Telling, Arrival, Learning, sendings, told, learnings, own_sendings, arrivals}
 use Rattle.network.specs.Runs.{Devices}
-use Rattle.network.specs.Guarantee.{Falling, simple_of, OwnFramesCarryTheirAcceptances, RepeatsCarryWhatWasToldRepeated, EveryArrivalIsOfAFrameOfItsDevice, OneOwnFrameAndOneRepeatASuperframe, RepeatsComeWithTheirFate, DeviceGuaranteed}
+use Rattle.network.specs.Guarantee.{Falling, simple_of, FatesComeWithTheNextSuperframe, HandedUpFromItsOwnTimeslot, TheNextNewsTellsTheFate, ConfirmedGoesByTheNewsThatTellsIt, TookTheNextBeaconOnline, ToldConfirmed, ConfirmedExactlyWhenHandedUp, OwnFramesStartWithTheGrant, OwnFramesCarryTheirAcceptances, RepeatsCarryWhatWasToldRepeated, EveryArrivalIsOfAFrameOfItsDevice, OneOwnFrameAndOneRepeatASuperframe, RepeatsComeWithTheirFate, DeviceGuaranteed}
 use Rattle.network.proofs.Books.{Line, Just, AllJust, telling_of, arrivals_of, listed, since, in_flight, count, Agrees}
+use Rattle.network.proofs.Learning.{Learns, learning_of}
 use Rattle.network.proofs.Sound.{Outside}
 
 -- entries by their numbers
@@ -38,6 +39,10 @@ module _ {A : Type 0} where
 
   pub numbered_more : (x : A) (xs : List A) (k : ℕ) (z : A) → numbered xs k ≡ Some z → numbered (x ∷ xs) k ≡ Some z
   numbered_more x xs k z h = let b = numbered_bound xs k z h in numbered_under x xs k (λ e. absurd (omega arith)) ∙ h
+
+  numbered_among : (xs : List A) (k : ℕ) (z : A) → numbered xs k ≡ Some z → Among z xs
+  numbered_among [] k z h = absurd cc
+  numbered_among (x ∷ xs) k z h = ⊎_elim (λ e. inl e.1) (λ g. inr (numbered_among xs k z g)) (numbered_cases x xs k z h)
 
   pub numbered_append : (ys xs : List A) (k : ℕ) (z : A) → numbered xs k ≡ Some z → numbered (ys ++ xs) k ≡ Some z
   numbered_append [] xs k z h = h
@@ -226,36 +231,86 @@ module _ {C : Type 0} where
             | inr t ↦ (let r : ◌≡◌ {A = Fate} fate.Lost fate.Repeated = sym l ∙ j.again_only t in absurd cc)
           ]
 
+-- a frame of the own timeslot has a line, or was sent without a fate yet
+sent_at : {C : Type 0} (o : Option C) (s : ℕ) (book : List (Line C)) (k t : ℕ) → numbered (since s o ++ map (λ y. y.sent) book) k ≡ Some t → (t ≡ s) ⊎ ((y : Line C) × (numbered book k ≡ Some y) × (t ≡ y.sent))
+sent_at None s book k t h = let u = numbered_unmap (λ y. y.sent) book k t h in inr (u.0, u.1, u.2)
+sent_at (Some x) s book k t h =
+    elim (numbered_cases s (map (λ y. y.sent) book) k t h) [
+      | inl e ↦ inl e.1
+      | inr g ↦ (let u = numbered_unmap (λ y. y.sent) book k t g in inr (u.0, u.1, u.2))
+    ]
+
+module _ {C : Type 0} (m : PlanMeaning) (devices : Devices) (ds : List (Deed C)) (d : ℕ) (l : Learns d ds) where
+  abbrev r : ℕ
+  r = m.numbers.retransmission
+
+  next_tells : (sent : Option C) (s : ℕ) (book : List (Line C)) → own_sendings r d ds ≡ since s sent ++ map (λ y. y.sent) book → told d ds ≡ map telling_of book
+      → ((x : Learning) → Among x (learnings d ds) → x.superframe ≡ suc s → ⊥) → TheNextNewsTellsTheFate m devices ds d
+  next_tells sent s book sends tells never k t x at among is =
+      elim (sent_at sent s book k t (sym (ap (λ (z : List ℕ). numbered z k) sends) ∙ at)) [
+        | inl late ↦ absurd (never x among (is ∙ ap suc late))
+        | inr u ↦ (
+            let y = telling_of u.0 in
+            let there : numbered (told d ds) k ≡ Some y = ap (λ (z : List Telling). numbered z k) tells ∙ numbered_map telling_of book k u.0 u.1 in
+            let same : y.superframe ≡ x.superframe = ap suc (sym u.2) ∙ sym is in
+            let news = l.one (learning_of y) x (l.tellings y (numbered_among (told d ds) k y there)) among same in
+            (y, there, same, ap (λ (z : Learning). z.online) news))
+      ]
+
+  -- with what is known of fates that were told
+  module _ (by_news : ConfirmedGoesByTheNewsThatTellsIt m devices ds d) (next : FatesComeWithTheNextSuperframe m devices ds d) (fate_told : TheNextNewsTellsTheFate m devices ds d) where
+    taken_when : (k : ℕ) → ToldConfirmed m devices ds d k → HandedUpFromItsOwnTimeslot m devices ds d k × TookTheNextBeaconOnline m devices ds d k
+    taken_when k (x, at, is) =
+        let p = (by_news k x at).0 is in
+        let n = next k x at in
+        (p.0, (n.0, learning_of x, n.1, l.tellings x (numbered_among (told d ds) k x at), n.2, p.1))
+
+    told_when : (k : ℕ) → HandedUpFromItsOwnTimeslot m devices ds d k × TookTheNextBeaconOnline m devices ds d k → ToldConfirmed m devices ds d k
+    told_when k (handed, (t, x, at, among, is, online)) =
+        let y = fate_told k t x at among is in
+        (y.0, y.1, (by_news k y.0 y.1).1 (handed, y.3 ∙ online))
+
+    exactly : ConfirmedExactlyWhenHandedUp m devices ds d
+    exactly k = (taken_when k, told_when k)
+
 -- which acceptances its frames carry, and when, is no matter of the book alone, and is handed in
 pub record Carried {C : Type 0} (image : C → List ℕ) (m : PlanMeaning) (devices : Devices) (ds : List (Deed C)) (d : ℕ) : Type 0 where
   pub own : OwnFramesCarryTheirAcceptances m devices ds d image
   pub again : RepeatsCarryWhatWasToldRepeated m devices ds d image
   pub of_its_frame : EveryArrivalIsOfAFrameOfItsDevice m devices ds d
   pub single : OneOwnFrameAndOneRepeatASuperframe m devices ds d
+  pub own_first : OwnFramesStartWithTheGrant m devices ds d
   pub timely : RepeatsComeWithTheirFate m devices ds d
+  pub learns : Learns d ds
 
 pub from_book : {C : Type 0} (image : C → List ℕ) (m : PlanMeaning) (devices : Devices) (ds : List (Deed C)) (d : ℕ)
     → Carried image m devices ds d → (simple : Option ℕ) (waiting sent : Option C) (k : ℕ) (bit : Bool) (book : List (Line C))
-    → simple_of m (devices.address d) ≡ simple → Agrees m.numbers.retransmission simple d ds waiting sent k bit book → DeviceGuaranteed m devices ds d image
-from_book {C = C} image m devices ds d carried simple waiting sent k bit book q g =
+    → simple_of m (devices.address d) ≡ simple → Agrees m.numbers.retransmission simple d ds waiting sent k bit book → ((x : Learning) → Among x (learnings d ds) → x.superframe ≡ suc k → ⊥) → DeviceGuaranteed m devices ds d image
+from_book {C = C} image m devices ds d carried simple waiting sent k bit book q g never =
     let arrived : arrivals m.numbers.retransmission (simple_of m (devices.address d)) d ds ≡ flown_arrivals waiting sent k bit book =
     ap (λ (s : Option ℕ). arrivals m.numbers.retransmission s d ds) q ∙ g.arrives in
+    let next : FatesComeWithTheNextSuperframe m devices ds d = λ i x h.
+    (let r = told_later waiting sent k bit book i x (subst (λ (l : List Telling). numbered l i ≡ Some x) g.tells h) in
+    (r.0, ap (λ (l : List ℕ). numbered l i) g.sends ∙ r.1, r.2)) in
+    let by_news : ConfirmedGoesByTheNewsThatTellsIt m devices ds d = λ i x h.
+    (let h' = subst (λ (l : List Telling). numbered l i ≡ Some x) g.tells h in (
+      λ c. subst (λ (l : List (Arrival C)). ((a : Arrival C) × Among a l × (a.number ≡ i) × (a.own ≡ true)) × (x.online ≡ true)) (sym arrived) (confirmed_handed waiting sent k bit book g.just i x h' c),
+      λ p. handed_confirmed waiting sent k bit book g.just i x h' (subst (λ (l : List (Arrival C)). ((a : Arrival C) × Among a l × (a.number ≡ i) × (a.own ≡ true)) × (x.online ≡ true)) arrived p),
+    )) in
+    let fate_told : TheNextNewsTellsTheFate m devices ds d = next_tells m devices ds d carried.learns sent k book g.sends g.tells never in
     record {
       accepted_before = λ x h. ap (λ (l : List C). numbered l x.number) g.accepts ∙ accepted_at waiting sent k bit book x (subst (λ (l : List (Arrival C)). Among x l) arrived h);
       in_order = subst (λ (l : List (Arrival C)). Falling l) (sym arrived) (in_order waiting sent k bit book);
       accounted = (let a = ap length g.accepts in let b = ap length g.tells in let c = counted waiting sent book in let e = g.sent_since in let f = g.waits in omega arith);
-      next_superframe = λ i x h.
-          (let r = told_later waiting sent k bit book i x (subst (λ (l : List Telling). numbered l i ≡ Some x) g.tells h) in
-          (r.0, ap (λ (l : List ℕ). numbered l i) g.sends ∙ r.1, r.2));
-      confirmed = λ i x h.
-          (let h' = subst (λ (l : List Telling). numbered l i ≡ Some x) g.tells h in (
-            λ c. subst (λ (l : List (Arrival C)). ((a : Arrival C) × Among a l × (a.number ≡ i) × (a.own ≡ true)) × (x.online ≡ true)) (sym arrived) (confirmed_handed waiting sent k bit book g.just i x h' c),
-            λ p. handed_confirmed waiting sent k bit book g.just i x h' (subst (λ (l : List (Arrival C)). ((a : Arrival C) × Among a l × (a.number ≡ i) × (a.own ≡ true)) × (x.online ≡ true)) arrived p),
-          ));
+      next_superframe = next;
+      fate_told = fate_told;
+      by_news = by_news;
+      confirmed = exactly m devices ds d carried.learns by_news next fate_told;
       lost = λ i x h c y a e.
           lost_never waiting sent k bit book g.just i x (subst (λ (l : List Telling). numbered l i ≡ Some x) g.tells h) c y (subst (λ (l : List (Arrival C)). Among y l) arrived a) e;
       own_frames_carry = carried.own;
       of_its_frame = carried.of_its_frame;
+      own_first = carried.own_first;
       single = carried.single;
       repeats_timely = carried.timely;
       repeats_carry = carried.again;
@@ -274,6 +329,22 @@ arrivals_none r e (transmission d t xs ∷ ds) = arrivals_none r e ds
 arrivals_none r e (taking d xs ∷ ds) = arrivals_none r e ds
 arrivals_none r e (nothing ∷ ds) = arrivals_none r e ds
 
+-- what was sent in the own timeslot was sent
+own_sent : {C : Type 0} (r e : ℕ) (ds : List (Deed C)) (t : ℕ) → Among t (own_sendings r e ds) → (x : Sending) × Among x (sendings ds) × (x.device ≡ e)
+own_sent r e [] t h = absurd h
+own_sent r e (opening xs ∷ ds) t h = own_sent r e ds t h
+own_sent r e (closing ∷ ds) t h = own_sent r e ds t h
+own_sent r e (hand_up t2 xs simple x ∷ ds) t h = own_sent r e ds t h
+own_sent r e (reply xs ∷ ds) t h = own_sent r e ds t h
+own_sent r e (news d b φ ∷ ds) t h = own_sent r e ds t h
+own_sent r e (acceptance d x ∷ ds) t h = own_sent r e ds t h
+own_sent r e (transmission d u xs ∷ ds) t h = elim (cases_eq d e) [
+  | inl same ↦ (_, inl refl, same)
+  | inr differ ↦ (let w = own_sent r e ds t (rw (ne_eqb d e differ) at h) in (w.0, inr w.1, w.2))
+]
+own_sent r e (taking d xs ∷ ds) t h = own_sent r e ds t h
+own_sent r e (nothing ∷ ds) t h = own_sent r e ds t h
+
 none_told : (ts : List Telling) (k : ℕ) (x : Telling) → ts ≡ [] → numbered ts k ≡ Some x → ⊥
 none_told ts k x e h =
     let n : ◌≡◌ {A = Option Telling} None (Some x) = sym (ap (λ (l : List Telling). numbered l k) e) ∙ h in
@@ -285,15 +356,21 @@ pub from_outside : {C : Type 0} (image : C → List ℕ) (m : PlanMeaning) (devi
 from_outside {C = C} image m devices ds d carried v q o =
     let r = m.numbers.retransmission in
     let arrived : arrivals r (simple_of m (devices.address d)) d ds ≡ [] = ap (λ (s : Option ℕ). arrivals r s d ds) q ∙ arrivals_none r d ds in
+    let next : FatesComeWithTheNextSuperframe m devices ds d = λ i x h. absurd (none_told (told d ds) i x o.no_told h) in
+    let by_news : ConfirmedGoesByTheNewsThatTellsIt m devices ds d = λ i x h. absurd (none_told (told d ds) i x o.no_told h) in
+    let fate_told : TheNextNewsTellsTheFate m devices ds d = λ i t x at among is. (let w = own_sent r d ds t (numbered_among (own_sendings r d ds) i t at) in absurd (o.no_sendings w.0 w.1 w.2)) in
     record {
       accepted_before = λ x h. absurd (subst (λ (l : List (Arrival C)). Among x l) arrived h);
       in_order = subst (λ (l : List (Arrival C)). Falling l) (sym arrived) tt;
       accounted = (let a = ap length o.no_accepted in let b = ap length o.no_told in let e = o.no_since r in let f = o.no_waits r in omega arith);
-      next_superframe = λ i x h. absurd (none_told (told d ds) i x o.no_told h);
-      confirmed = λ i x h. absurd (none_told (told d ds) i x o.no_told h);
+      next_superframe = next;
+      fate_told = fate_told;
+      by_news = by_news;
+      confirmed = exactly m devices ds d carried.learns by_news next fate_told;
       lost = λ i x h c y a e. none_told (told d ds) i x o.no_told h;
       own_frames_carry = carried.own;
       of_its_frame = carried.of_its_frame;
+      own_first = carried.own_first;
       single = carried.single;
       repeats_timely = carried.timely;
       repeats_carry = carried.again;

@@ -11,7 +11,7 @@ use Rattle.device.specs.declared.state.Device.{Device}
 use Rattle.device.specs.declared.state.Fate.{Fate}
 use Rattle.network.specs.Deeds.{Deed, opening, closing, hand_up, reply, news, acceptance, transmission, taking, nothing}
 use Rattle.network.specs.History.{numbered, Among, Sending, Telling, Arrival, Frame, frame_at, superframes, announced, learned, sendings, told, own_sendings, arrivals, frames, heard}
-use Rattle.network.specs.Guarantee.{Paired, grant_of, simple_of, OneOwnFrameAndOneRepeatASuperframe, RepeatsComeWithTheirFate}
+use Rattle.network.specs.Guarantee.{Paired, grant_of, simple_of, OwnFramesStartWithTheGrant, OneOwnFrameAndOneRepeatASuperframe, RepeatsComeWithTheirFate}
 use Rattle.network.specs.Runs.{Devices, KeepsRules}
 use Rattle.network.proofs.Accounts.{numbered_map}
 use Rattle.network.proofs.Books.{telling_of}
@@ -61,6 +61,7 @@ module _ {C : Type 0} (image : C → List ℕ) (m : PlanMeaning) (devices : Devi
     pub now : (y : Sending) → Among y (sendings ds) → y.device ≡ e → y.superframe ≡ superframes ds → (learned e ds ≡ true) × Among (framed ds y) (frames r e ds)
     pub sent : (x : Frame) → Among x (frames r e ds) → SentAs ds x
     pub of_its_frame : (x : Frame) → Among x (heard r (simple_of m (devices.address e)) e ds) → Among x (frames r e ds)
+    pub own_first : OwnFramesStartWithTheGrant m devices ds e
     pub single : OneOwnFrameAndOneRepeatASuperframe m devices ds e
     pub timely : RepeatsComeWithTheirFate m devices ds e
 
@@ -81,6 +82,7 @@ module _ {C : Type 0} (image : C → List ℕ) (m : PlanMeaning) (devices : Devi
     now = λ y none. absurd none;
     sent = λ x none. absurd none;
     of_its_frame = λ x h. absurd (nothing_heard_yet (simple_of m (devices.address e)) x h);
+    own_first = λ x none. absurd none;
     single = tt;
     timely = λ x none. absurd none;
   }
@@ -95,6 +97,7 @@ module _ {C : Type 0} (image : C → List ℕ) (m : PlanMeaning) (devices : Devi
       now = λ y among device is. let before = earlier y among in absurd (omega arith);
       sent = c.sent;
       of_its_frame = c.of_its_frame;
+      own_first = c.own_first;
       single = c.single;
       timely = c.timely;
     }
@@ -106,10 +109,11 @@ module _ {C : Type 0} (image : C → List ℕ) (m : PlanMeaning) (devices : Devi
         now = λ y among device is. absurd (both_ways _ (subst (λ (z : ℕ). learned z ds ≡ false) same unaware) (c.now y among device is).0);
         sent = c.sent;
         of_its_frame = c.of_its_frame;
+        own_first = c.own_first;
         single = c.single;
         timely = λ x among repeat. let w = c.timely x among repeat in (w.0, numbered_telling (eqb d e) (superframes ds) _ φ (told e ds) x.number w.0 w.1, w.2, w.3);
       }
-      | inr differ ↦ (let q = ne_eqb d e differ in record { now = rw q c.now; sent = c.sent; of_its_frame = c.of_its_frame; single = c.single; timely = rw q c.timely })
+      | inr differ ↦ (let q = ne_eqb d e differ in record { now = rw q c.now; sent = c.sent; of_its_frame = c.of_its_frame; own_first = c.own_first; single = c.single; timely = rw q c.timely })
     ]
 
     -- what is heard under its address is the frame that it sent there
@@ -127,6 +131,7 @@ module _ {C : Type 0} (image : C → List ℕ) (m : PlanMeaning) (devices : Devi
       now = c.now;
       sent = c.sent;
       of_its_frame = heard_more t xs simple z (simple_of m (devices.address e)) its c.of_its_frame;
+      own_first = c.own_first;
       single = c.single;
       timely = c.timely;
     }
@@ -147,6 +152,7 @@ module _ {C : Type 0} (image : C → List ℕ) (m : PlanMeaning) (devices : Devi
           now = rw q (λ y among device is. ⊎_elim (λ new. absurd (differ (sym (ap (λ (z : Sending). z.device) new) ∙ device))) (λ old. c.now y old device is) among);
           sent = rw q (λ x among. let w = c.sent x among in (w.0, inr w.1, w.2, w.3, w.4));
           of_its_frame = rw q c.of_its_frame;
+          own_first = rw q c.own_first;
           single = rw q c.single;
           timely = rw q c.timely;
         }
@@ -184,6 +190,7 @@ module _ {C : Type 0} (image : C → List ℕ) (m : PlanMeaning) (devices : Devi
                 (λ old. let w = c.sent x old in (w.0, inr w.1, w.2, w.3, w.4))
                 among);
             of_its_frame = rw (q, high) (λ x h. inr (c.of_its_frame x h));
+            own_first = rw (q, high) (λ x among own. ⊎_elim (λ new. (g, found, ap (λ (z : Frame). z.timeslot) new ∙ is)) (λ old. c.own_first x old own) among);
             single = rw (q, high) (alone, c.single);
             timely = rw (q, high) (λ x among repeat. ⊎_elim
                 (λ new. let own = ap (λ (z : Frame). z.own) new in absurd (both_ways _ repeat own))
@@ -237,6 +244,7 @@ module _ {C : Type 0} (image : C → List ℕ) (m : PlanMeaning) (devices : Devi
                 (λ old. let w = c.sent y old in (w.0, inr w.1, w.2, w.3, w.4))
                 among);
             of_its_frame = rw (q, low) (λ y h. inr (c.of_its_frame y h));
+            own_first = rw (q, low) (λ y among own. ⊎_elim (λ new. absurd (both_ways _ (ap (λ (z : Frame). z.own) new) own)) (λ old. c.own_first y old own) among);
             single = rw (q, low) (alone, c.single);
             timely = rw (q, low) (λ y among repeat. ⊎_elim
                 (λ new. (telling_of top, subst (λ (z : Frame). numbered (told e ds) z.number ≡ Some (telling_of top)) (sym new) fated, due.0.fate, due.2 ∙ sym (ap (λ (z : Frame). z.superframe) new)))
@@ -272,12 +280,12 @@ module _ {C : Type 0} (image : C → List ℕ) (m : PlanMeaning) (devices : Devi
   pub next_credits : Rules m → (k : Inner) (v : Device C) (ds : List (Deed C)) → (is_some (announced ds) ≡ true → k.opened ≡ true) → ((x : Sending) → Among x (sendings ds) → x.superframe ≤ superframes ds) → Standing image m.numbers e (grant_of m (devices.address e)) k v ds
       → (deed : Deed C) → KeepsRules devices.count ds deed → Grounds v ds deed → Credits ds → Credits (deed ∷ ds)
   next_credits rules k v ds opened earlier s (opening xs) keeps grounds c = opening_credits ds c xs earlier
-  next_credits rules k v ds opened earlier s closing keeps grounds c = record { now = c.now; sent = c.sent; of_its_frame = c.of_its_frame; single = c.single; timely = c.timely }
+  next_credits rules k v ds opened earlier s closing keeps grounds c = record { now = c.now; sent = c.sent; of_its_frame = c.of_its_frame; own_first = c.own_first; single = c.single; timely = c.timely }
   next_credits rules k v ds opened earlier s (hand_up t xs simple x) keeps grounds c = hand_up_credits ds c v t xs simple x grounds
-  next_credits rules k v ds opened earlier s (reply xs) keeps grounds c = record { now = c.now; sent = c.sent; of_its_frame = c.of_its_frame; single = c.single; timely = c.timely }
+  next_credits rules k v ds opened earlier s (reply xs) keeps grounds c = record { now = c.now; sent = c.sent; of_its_frame = c.of_its_frame; own_first = c.own_first; single = c.single; timely = c.timely }
   next_credits rules k v ds opened earlier s (news d None φ) keeps grounds c = news_credits ds c d None φ keeps.1
   next_credits rules k v ds opened earlier s (news d (Some b) φ) keeps grounds c = news_credits ds c d (Some b) φ keeps.1
-  next_credits rules k v ds opened earlier s (acceptance d x) keeps grounds c = record { now = c.now; sent = c.sent; of_its_frame = c.of_its_frame; single = c.single; timely = c.timely }
+  next_credits rules k v ds opened earlier s (acceptance d x) keeps grounds c = record { now = c.now; sent = c.sent; of_its_frame = c.of_its_frame; own_first = c.own_first; single = c.single; timely = c.timely }
   next_credits rules k v ds opened earlier s (transmission d t xs) keeps grounds c = elim (cases_eq d e) [
     | inl same ↦ (
         let w = grounds same in
@@ -286,5 +294,5 @@ module _ {C : Type 0} (image : C → List ℕ) (m : PlanMeaning) (devices : Devi
         sent_credits ds c rules w.0 w.1 k.gathered k.sent k.last v then (subst (λ (z : ℕ). learned z ds ≡ true) same keeps.1) d t xs same w.2)
     | inr differ ↦ elsewhere_credits ds c d t xs differ
   ]
-  next_credits rules k v ds opened earlier s (taking d xs) keeps grounds c = record { now = c.now; sent = c.sent; of_its_frame = c.of_its_frame; single = c.single; timely = c.timely }
-  next_credits rules k v ds opened earlier s nothing keeps grounds c = record { now = c.now; sent = c.sent; of_its_frame = c.of_its_frame; single = c.single; timely = c.timely }
+  next_credits rules k v ds opened earlier s (taking d xs) keeps grounds c = record { now = c.now; sent = c.sent; of_its_frame = c.of_its_frame; own_first = c.own_first; single = c.single; timely = c.timely }
+  next_credits rules k v ds opened earlier s nothing keeps grounds c = record { now = c.now; sent = c.sent; of_its_frame = c.of_its_frame; own_first = c.own_first; single = c.single; timely = c.timely }

@@ -18,7 +18,7 @@ use Rattle.device.specs.declared.state.Fate.{Fate}
 use Rattle.device.specs.Steps as device
 use Rattle.network.specs.Calls.{Call, set_mode, opens, hears, hears_management, closes, takes_beacon, misses_beacon, is_offered, sends, writes_management, takes_management, device_after, Answers}
 use Rattle.network.specs.Deeds.{Deed, opening, closing, hand_up, reply, news, acceptance, transmission, taking, nothing, deed}
-use Rattle.network.specs.History.{Among, Sending, announced, sendings, senders}
+use Rattle.network.specs.History.{Among, Sending, superframes, announced, sendings, senders}
 use Rattle.network.specs.Guarantee.{grant_of, simple_of, DeviceTellsWhatItHolds, Guaranteed, DeviceGuaranteed, Guarantee}
 use Rattle.network.specs.Runs.{Devices, Different, Present, OnAir, KeepsRules, deeds, hall, Run}
 use Rattle.network.proofs.Accounts.{Carried, from_book, from_outside}
@@ -29,6 +29,7 @@ use Rattle.network.proofs.Crediting.{Credits, Grounds, begun_credits, next_credi
 use Rattle.network.proofs.Devices as DevicesKeep
 use Rattle.network.proofs.Devices.{open_now}
 use Rattle.network.proofs.Hearing.{grant_found, heard_of, heard_elsewhere}
+use Rattle.network.proofs.Learning.{Learns, begun_learns, next_learns, no_later}
 use Rattle.network.proofs.News as NewsKeep
 use Rattle.network.proofs.Others as others
 use Rattle.network.proofs.Placing.{Facts, placed, hand_up_facts, transmission_facts}
@@ -403,15 +404,20 @@ module _ {C : Type 0} (image : C → List ℕ) (short : (x : C) → length (imag
       let k = (hall image m devices cs).coordinator in
       next_credits image m devices e rules k ((hall image m devices cs).devices e) (deeds cs) (opened_by m k (deeds cs) h.steady) h.steady.earlier (h.standing e there) (deed c) run.3 (grounded cs h c run.1 run.3 e there) (crediting cs run.0 e there)
 
+  learning : (cs : List (Call C)) → Run image m devices cs → (e : ℕ) → Learns e (deeds cs)
+  learning [] run e = begun_learns e
+  learning (c ∷ cs) run e = next_learns e devices.count (deeds cs) (deed c) run.3 (learning cs run.0 e)
+
   carried : (cs : List (Call C)) → Run image m devices cs → (e : ℕ) → e < devices.count → Carried image m devices (deeds cs) e
   carried cs run e there =
       let a = carrying cs run e there in
       let b = crediting cs run e there in
-      record { own = a.own; again = a.again; of_its_frame = (paired m.numbers.retransmission (simple_of m (devices.address e)) e (deeds cs), b.of_its_frame); single = b.single; timely = b.timely }
+      record { own = a.own; again = a.again; of_its_frame = (paired m.numbers.retransmission (simple_of m (devices.address e)) e (deeds cs), b.of_its_frame); single = b.single; own_first = b.own_first; timely = b.timely; learns = learning cs run e }
 
-  each_by : (cs : List (Call C)) (d : ℕ) → Carried image m devices (deeds cs) d → (o : Option Grant) → grant_of m (devices.address d) ≡ o → (k : Inner) (v : Device C) → Standing image m.numbers d o k v (deeds cs) → DeviceGuaranteed m devices (deeds cs) d image
-  each_by cs d c None found k v s = from_outside image m devices (deeds cs) d c v (ap (λ (o : Option Grant). option_map (λ (x : Grant). x.simple) o) found) s
-  each_by cs d c (Some g) found k v s = from_book image m devices (deeds cs) d c (Some g.simple) v.waiting v.sent _ _ s.book (simple_found (devices.address d) g found) s.agrees
+  each_by : (cs : List (Call C)) (d : ℕ) → Carried image m devices (deeds cs) d → (o : Option Grant) → grant_of m (devices.address d) ≡ o → (k : Inner) (v : Device C) → (k.opened ≡ true → 1 ≤ superframes (deeds cs)) → Standing image m.numbers d o k v (deeds cs) → DeviceGuaranteed m devices (deeds cs) d image
+  each_by cs d c None found k v counted s = from_outside image m devices (deeds cs) d c v (ap (λ (o : Option Grant). option_map (λ (x : Grant). x.simple) o) found) s
+  each_by cs d c (Some g) found k v counted s = from_book image m devices (deeds cs) d c (Some g.simple) v.waiting v.sent _ _ s.book (simple_found (devices.address d) g found) s.agrees
+      (λ x among is. no_later d (deeds cs) c.learns k.opened counted x among is)
 
   -- a count is one exactly where there is something
   as_held : {A : Type 0} (o : Option A) → count o ≡ cond (is_some o) 1 0
@@ -432,7 +438,7 @@ module _ {C : Type 0} (image : C → List ℕ) (short : (x : C) → length (imag
         takes_its_timeslot = h.facts.takes;
         exclusive = h.facts.exclusive;
         sender = h.facts.sender;
-        each = λ d there. each_by cs d (carried cs run d there) (grant_of m (devices.address d)) refl (hall image m devices cs).coordinator ((hall image m devices cs).devices d) (h.standing d there);
+        each = λ d there. each_by cs d (carried cs run d there) (grant_of m (devices.address d)) refl (hall image m devices cs).coordinator ((hall image m devices cs).devices d) h.steady.counted (h.standing d there);
         tells = λ d there. tells_by d (deeds cs) (grant_of m (devices.address d)) (hall image m devices cs).coordinator ((hall image m devices cs).devices d) (h.standing d there);
       }
 

@@ -10,5 +10,6 @@ pub mod Placing
 pub mod Addresses
 pub mod Carrying
 pub mod Crediting
+pub mod Learning
 pub mod Holds
 pub mod Example

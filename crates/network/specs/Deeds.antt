@@ -11,7 +11,7 @@ pub data Deed (C : Type 0) : Type 0 where
   closing : Deed C
   -- in a timeslot these octets were heard, and cargo was handed up under a simple address
   hand_up : ℕ → List ℕ → ℕ → C → Deed C
-  -- the coordinator wrote a management frame
+  -- the coordinator took a management frame, and wrote these octets in reply, or none
   reply : List ℕ → Deed C
   -- a device took the beacon of these octets, or was told that it missed one, and told a fate or none
   news : ℕ → Option (List ℕ) → Option Fate → Deed C

@@ -10,7 +10,7 @@ use Rattle.device.specs.declared.state.Fate.TheVariants as fate
 use Rattle.coordinator.specs.Steps.{granted}
 use Rattle.network.specs.Calls.{Call}
 use Rattle.network.specs.Deeds.{Deed}
-use Rattle.network.specs.History.{numbered, Among, Sending, Telling, Arrival, Repetition, Frame, sendings, accepted, told, own_sendings, own_frames, repeats, arrivals, frames, heard, senders, sent_since, waits}
+use Rattle.network.specs.History.{numbered, Among, Sending, Telling, Arrival, Repetition, Frame, Learning, sendings, accepted, told, learnings, own_sendings, own_frames, repeats, arrivals, frames, heard, senders, sent_since, waits}
 use Rattle.network.specs.Runs.{Devices, Different, deeds, hall, Run}
 
 -- the grant of the device with a full address, if the plan has one
@@ -81,6 +81,10 @@ module _ {C : Type 0} (m : PlanMeaning) (devices : Devices) (ds : List (Deed C))
     abbrev pub EveryArrivalIsOfAFrameOfItsDevice : Type 0
     EveryArrivalIsOfAFrameOfItsDevice = Paired arrivals_of_device frames_heard × ((x : Frame) → Among x frames_heard → Among x frames_of_device)
 
+    -- the own timeslot is the first one of the device's grant
+    abbrev pub OwnFramesStartWithTheGrant : Type 0
+    OwnFramesStartWithTheGrant = (x : Frame) → Among x frames_of_device → x.own ≡ true → (g : Grant) × (grant_of m (devices.address d) ≡ Some g) × (x.timeslot ≡ g.first)
+
     -- in a superframe it sends once in its own timeslot at most, and one repeat at most
     abbrev pub OneOwnFrameAndOneRepeatASuperframe : Type 0
     OneOwnFrameAndOneRepeatASuperframe = Single frames_of_device
@@ -108,12 +112,32 @@ module _ {C : Type 0} (m : PlanMeaning) (devices : Devices) (ds : List (Deed C))
     abbrev pub HandedUpFromItsOwnTimeslot : ℕ → Type 0
     HandedUpFromItsOwnTimeslot k = (x : Arrival C) × Among x arrivals_of_device × (x.number ≡ k) × (x.own ≡ true)
 
-    -- Confirmed is told of acceptance k exactly when it was handed up from its own timeslot, and the news was an Online beacon taken
-    abbrev pub ConfirmedExactlyWhenHandedUp : Type 0
-    ConfirmedExactlyWhenHandedUp =
+    -- with the news of the superframe after the one in which acceptance k was sent in its own timeslot, its fate is told
+    abbrev pub TheNextNewsTellsTheFate : Type 0
+    TheNextNewsTellsTheFate =
+        (k sent : ℕ) (x : Learning) → numbered (own_sendings m.numbers.retransmission d ds) k ≡ Some sent → Among x (learnings d ds) → x.superframe ≡ suc sent
+        → (y : Telling) × (numbered (told d ds) k ≡ Some y) × (y.superframe ≡ x.superframe) × (y.online ≡ x.online)
+
+    -- of a fate that was told: it is Confirmed exactly when acceptance k was handed up from its own timeslot, and the news that told it was an Online beacon taken
+    abbrev pub ConfirmedGoesByTheNewsThatTellsIt : Type 0
+    ConfirmedGoesByTheNewsThatTellsIt =
         (k : ℕ) (x : Telling) → numbered (told d ds) k ≡ Some x
         → (x.fate ≡ fate.Confirmed → HandedUpFromItsOwnTimeslot k × (x.online ≡ true))
         × (HandedUpFromItsOwnTimeslot k × (x.online ≡ true) → x.fate ≡ fate.Confirmed)
+
+    -- the device took the beacon of the superframe after the one in which acceptance k was sent in its own timeslot, an Online one
+    abbrev pub TookTheNextBeaconOnline : ℕ → Type 0
+    TookTheNextBeaconOnline k =
+        (sent : ℕ) × (x : Learning) × (numbered (own_sendings m.numbers.retransmission d ds) k ≡ Some sent) × Among x (learnings d ds) × (x.superframe ≡ suc sent) × (x.online ≡ true)
+
+    -- Confirmed was told of acceptance k
+    abbrev pub ToldConfirmed : ℕ → Type 0
+    ToldConfirmed k = (x : Telling) × (numbered (told d ds) k ≡ Some x) × (x.fate ≡ fate.Confirmed)
+
+    -- Confirmed is told of an acceptance exactly when it was handed up from its own timeslot and the next superframe's beacon, an Online one, was taken
+    abbrev pub ConfirmedExactlyWhenHandedUp : Type 0
+    ConfirmedExactlyWhenHandedUp =
+        (k : ℕ) → (ToldConfirmed k → HandedUpFromItsOwnTimeslot k × TookTheNextBeaconOnline k) × (HandedUpFromItsOwnTimeslot k × TookTheNextBeaconOnline k → ToldConfirmed k)
 
     abbrev pub NothingLostIsHandedUp : Type 0
     NothingLostIsHandedUp =
@@ -138,10 +162,13 @@ module _ {C : Type 0} (m : PlanMeaning) (devices : Devices) (ds : List (Deed C))
         pub in_order : ArrivalsComeInOrder
         pub accounted : AcceptancesAreAccountedFor
         pub next_superframe : FatesComeWithTheNextSuperframe
+        pub fate_told : TheNextNewsTellsTheFate
+        pub by_news : ConfirmedGoesByTheNewsThatTellsIt
         pub confirmed : ConfirmedExactlyWhenHandedUp
         pub lost : NothingLostIsHandedUp
         pub own_frames_carry : OwnFramesCarryTheirAcceptances
         pub of_its_frame : EveryArrivalIsOfAFrameOfItsDevice
+        pub own_first : OwnFramesStartWithTheGrant
         pub single : OneOwnFrameAndOneRepeatASuperframe
         pub repeats_timely : RepeatsComeWithTheirFate
         pub repeats_carry : RepeatsCarryWhatWasToldRepeated

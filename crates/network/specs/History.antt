@@ -27,6 +27,11 @@ pub record Telling : Type 0 where
   pub superframe : ℕ
   pub online : Bool
 
+-- news that a device had of a beacon: in which superframe of the run, and whether an Online beacon was taken
+pub record Learning : Type 0 where
+  pub superframe : ℕ
+  pub online : Bool
+
 -- cargo that was handed up: the number of the acceptance, whether from the sender's own timeslot, and the cargo
 pub record Arrival (C : Type 0) : Type 0 where
   pub number : ℕ
@@ -155,6 +160,19 @@ module _ {C : Type 0} where
   told e (transmission d t xs ∷ ds) = told e ds
   told e (taking d xs ∷ ds) = told e ds
   told e (nothing ∷ ds) = told e ds
+
+  -- the news that device e had
+  abbrev pub learnings : ℕ → List (Deed C) → List Learning
+  learnings e [] = []
+  learnings e (opening xs ∷ ds) = learnings e ds
+  learnings e (closing ∷ ds) = learnings e ds
+  learnings e (hand_up t xs simple x ∷ ds) = learnings e ds
+  learnings e (reply xs ∷ ds) = learnings e ds
+  learnings e (news d b φ ∷ ds) = cond (d == e) (record { superframe = superframes ds; online = announces_online b } ∷ learnings e ds) (learnings e ds)
+  learnings e (acceptance d x ∷ ds) = learnings e ds
+  learnings e (transmission d t xs ∷ ds) = learnings e ds
+  learnings e (taking d xs ∷ ds) = learnings e ds
+  learnings e (nothing ∷ ds) = learnings e ds
 
   -- the superframes in which device e sent in its own timeslot, which is one above R. Acceptances are sent in their order, one cargo
   -- waiting at a time, so the k-th of these frames is that of acceptance k.
