@@ -7,6 +7,8 @@ mod hearing;
 mod keeping;
 mod managing;
 mod state;
+#[cfg(test)]
+mod tests;
 
 pub use coordinator::Coordinator;
 pub use state::{Heard, Mode, OpenSuperframe, Opened, Record};

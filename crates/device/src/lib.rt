@@ -10,5 +10,7 @@ mod management;
 mod rules;
 mod sending;
 mod state;
+#[cfg(test)]
+mod tests;
 
 pub use state::{Device, Fate, Phase};
