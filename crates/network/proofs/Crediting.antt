@@ -20,7 +20,7 @@ use Rattle.network.proofs.Devices.{Sends}
 use Rattle.network.proofs.Hearing.{grant_found}
 use Rattle.network.proofs.Sound.{Sound, OwnFrame, AgainFrame, Standing}
 
--- a repeat has the same number whatever was sent in the own timeslot, and a frame of that whatever was told
+-- a frame up to R is the same whatever was sent in the own timeslot
 repeat_alike : (r t a f g k : ℕ) (xs : List ℕ) → leb t r ≡ true → frame_at r t a f k xs ≡ frame_at r t a g k xs
 repeat_alike r t a f g k xs low = cond-true _ _ _ low ∙ sym (cond-true _ _ _ low)
 
@@ -91,7 +91,7 @@ module _ {C : Type 0} (image : C → List ℕ) (m : PlanMeaning) (devices : Devi
       nothing_heard_yet o x h = h
 
   module _ (ds : List (Deed C)) (c : Credits ds) where
-    -- a deed that adds neither superframe, nor news, frame or arrival
+    -- nothing was sent yet in a superframe that opens
     opening_credits : (xs : List ℕ) → ((x : Sending) → Among x (sendings ds) → x.superframe ≤ superframes ds) → Credits (opening xs ∷ ds)
     opening_credits xs earlier = record {
       now = λ y among device is. let before = earlier y among in absurd (omega arith);
@@ -157,7 +157,7 @@ module _ {C : Type 0} (image : C → List ℕ) (m : PlanMeaning) (devices : Devi
           timely = rw q c.timely;
         }
 
-    -- its own frame, where nothing was sent in its own timeslot since the news, or a repeat is due
+    -- a frame of this device: in its own timeslot, where it sent none since the news, or a repeat that is due
     module _ (rules : Rules m) (g : Grant) (found : grant_of m (devices.address e) ≡ Some g) (gathered bitmap : List ℕ) (last : ℕ) (v : Device C) (s : Sound image m.numbers e g true gathered bitmap last v ds) (aware : learned e ds ≡ true) (d t : ℕ) (xs : List ℕ) (same : d ≡ e) where
       abbrev this : Sending
       this = record { device = d; superframe = superframes ds; timeslot = t; octets = xs }
@@ -171,7 +171,7 @@ module _ {C : Type 0} (image : C → List ℕ) (m : PlanMeaning) (devices : Devi
       abbrev again_frame : Frame
       again_frame = record { number = length (told e ds); own = false; superframe = superframes ds; timeslot = t; octets = xs }
 
-      -- frames of this superframe before it are a repeat in a timeslot up to R, or were sent above R
+      -- what it sent in its own timeslot is above R, and a repeat is not
       own_above : (y : Sending) → OwnFrame image m.numbers g v y → leb y.timeslot r ≡ false
       own_above y w = let above = at_own.0 in let is = w.timeslot in lt-leb _ _ (omega arith)
 
