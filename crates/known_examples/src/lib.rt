@@ -2,7 +2,7 @@
 #![tactic(auto)]
 
 ghost use Rattle.std.specs.Prelude.{◌≡◌, length};
-ghost use Rattle.known.specs.Known.{cases, KnownCasesHold};
+ghost use Rattle.known_examples.specs.KnownExamples.{cases, KnownCasesHold};
 
 // How many claims the list of known examples has; `hold` says that each of them holds.
 pub fn known_cases() -> usize

@@ -6,7 +6,7 @@ use Rattle.frame.specs.Refusals.{fault}
 use Rattle.repeats.specs.Starts.{repeat_start}
 use Rattle.cargo.specs.Panels.{ImagesNone}
 use Rattle.cargo.specs.PanelsLemmas.{not_unused}
-use Rattle.known.specs.Known.{OnlyRefused, KnownCasesHold}
+use Rattle.known_examples.specs.KnownExamples.{OnlyRefused, KnownCasesHold}
 
 -- where no panel has an image, the answer is the refusal
 only : (xs : List ℕ) → ImagesNone xs → OnlyRefused xs (fault refusal.Cargo 1)
