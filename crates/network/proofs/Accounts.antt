@@ -1,16 +1,17 @@
 -- What a device may count on, from a book that agrees with a history.
-use Rattle.std.proofs.Common.{◌≡◌, ℕ, suc, ◌+◌, ◌<◌, ◌≤◌, Bool, true, false, cond, ◌⊎◌, List, [], ◌∷◌, ◌++◌, map, length, Some, None, Option, sym, refl, ap, ◌∙◌, subst, inl, inr, ⊎_elim, true≢false, arith}
+use Rattle.std.proofs.Common.{◌≡◌, ℕ, suc, ◌+◌, ◌<◌, ◌≤◌, Bool, true, false, cond, ◌⊎◌, List, [], ◌∷◌, ◌++◌, map, filter, length, Some, None, Option, sym, refl, ap, ◌∙◌, subst, inl, inr, ⊎_elim, true≢false, arith}
 use lib.ListN.{length-map}
 use Rattle.std.proofs.lemmas.Bool.{cases_eq, eq-eqb, ne_eqb, cond-true, cond-false}
 use Rattle.device.specs.declared.state.Device.{Device}
 use Rattle.device.specs.declared.state.Fate.{Fate}
 use Rattle.device.specs.declared.state.Fate.TheVariants as fate
 use Rattle.plan.specs.Rules.{PlanMeaning}
-use Rattle.network.specs.Deeds.{Deed, opening, closing, hand_up, reply, news, acceptance, transmission, taking, nothing}
-use Rattle.network.specs.History.{numbered, Among, Sending, Telling, Arrival, Learning, sendings, told, learnings, own_sendings, arrivals}
+use Rattle.repeats.specs.Starts.{for_retransmission}
+use Rattle.network.specs.Deeds.{Deed, hand_up}
+use Rattle.network.specs.History.{numbered, Among, Sending, Telling, Arrival, Learning, sendings, told, learnings, is_own, own_sendings, arrivals}
 use Rattle.network.specs.Runs.{Devices}
 use Rattle.network.specs.Guarantee.{Falling, simple_of, FatesComeWithTheNextSuperframe, HandedUpFromItsOwnTimeslot, TheNextNewsTellsTheFate, ConfirmedGoesByTheNewsThatTellsIt, TookTheNextBeaconOnline, ToldConfirmed, ConfirmedExactlyWhenHandedUp, OwnFramesStartWithTheGrant, OwnFramesCarryTheirAcceptances, RepeatsCarryWhatWasToldRepeated, EveryArrivalIsOfAFrameOfItsDevice, OneOwnFrameAndOneRepeatASuperframe, RepeatsComeWithTheirFate, DeviceGuaranteed}
-use Rattle.network.proofs.Books.{Line, Just, AllJust, telling_of, arrivals_of, listed, since, in_flight, count, Agrees}
+use Rattle.network.proofs.Books.{Line, Just, AllJust, Landing, landing_of, telling_of, arrivals_of, listed, since, in_flight, count, Agrees}
 use Rattle.network.proofs.Learning.{Learns, learning_of}
 use Rattle.network.proofs.Sound.{Outside}
 
@@ -65,16 +66,37 @@ module _ {A B : Type 0} (f : A → B) where
         | inr g ↦ (let u = numbered_unmap ys k z g in (u.0, numbered_more y ys k u.0 u.1, u.2))
       ]
 
+-- landings, the newest first, are of acceptances that were accepted one after another
+abbrev Descending : {C : Type 0} → List (Landing C) → Type 0
+Descending [] = Unit {0}
+Descending (x ∷ xs) = ((y : Landing _) → Among y xs → y.number < x.number) × Descending xs
+
+-- an arrival is among the landings, and a landing is that of an arrival
+module _ {C : Type 0} where
+  pub landed_among : (xs : List (Arrival C)) (x : Arrival C) → Among x xs → Among (landing_of x) (map landing_of xs)
+  landed_among [] x h = h
+  landed_among (y ∷ ys) x (inl e) = inl (ap landing_of e)
+  landed_among (y ∷ ys) x (inr h) = inr (landed_among ys x h)
+
+  pub arrival_at : (xs : List (Arrival C)) (a : Landing C) → Among a (map landing_of xs) → (x : Arrival C) × Among x xs × (landing_of x ≡ a)
+  arrival_at [] a h = absurd h
+  arrival_at (y ∷ ys) a (inl e) = (y, inl refl, sym e)
+  arrival_at (y ∷ ys) a (inr h) = let u = arrival_at ys a h in (u.0, inr u.1, u.2)
+
+  pub descending : (xs : List (Arrival C)) → Descending (map landing_of xs) → Falling xs
+  descending [] f = tt
+  descending (x ∷ xs) f = (λ y h. f.0 (landing_of y) (landed_among xs y h), descending xs f.1)
+
 -- arrivals of lines
 module _ {C : Type 0} where
   -- an arrival of a line with a number
-  record Of (n : ℕ) (x : C) (own again : Bool) (a : Arrival C) : Type 0 where
+  record Of (n : ℕ) (x : C) (own again : Bool) (a : Landing C) : Type 0 where
     pub number : a.number ≡ n
     pub cargo : a.cargo ≡ x
     pub own_is : a.own ≡ own
     pub handed : (own ≡ true) ⊎ (again ≡ true)
 
-  arrival_split : (own again : Bool) (n : ℕ) (x : C) (rest : List (Arrival C)) (a : Arrival C)
+  arrival_split : (own again : Bool) (n : ℕ) (x : C) (rest : List (Landing C)) (a : Landing C)
       → Among a (cond own (record { number = n; own = true; cargo = x } ∷ rest) (cond again (record { number = n; own = false; cargo = x } ∷ rest) rest))
       → Of n x own again a ⊎ Among a rest
   arrival_split true again n x rest a (inl e) = inl (record { number = ap (λ z. z.number) e; cargo = ap (λ z. z.cargo) e; own_is = ap (λ z. z.own) e; handed = inl refl })
@@ -83,17 +105,17 @@ module _ {C : Type 0} where
   arrival_split false true n x rest a (inr h) = inr h
   arrival_split false false n x rest a h = inr h
 
-  arrival_more : (own again : Bool) (y z : Arrival C) (rest : List (Arrival C)) (a : Arrival C) → Among a rest → Among a (cond own (y ∷ rest) (cond again (z ∷ rest) rest))
+  arrival_more : (own again : Bool) (y z : Landing C) (rest : List (Landing C)) (a : Landing C) → Among a rest → Among a (cond own (y ∷ rest) (cond again (z ∷ rest) rest))
   arrival_more true again y z rest a h = inr h
   arrival_more false true y z rest a h = inr h
   arrival_more false false y z rest a h = h
 
-  arrival_top : (own : Bool) (y : Arrival C) (rest other : List (Arrival C)) → own ≡ true → Among y (cond own (y ∷ rest) other)
+  arrival_top : (own : Bool) (y : Landing C) (rest other : List (Landing C)) → own ≡ true → Among y (cond own (y ∷ rest) other)
   arrival_top true y rest other o = inl refl
   arrival_top false y rest other o = absurd cc
 
   -- an arrival comes from the line with its number
-  from_line : (book : List (Line C)) (a : Arrival C) → Among a (arrivals_of book) → (y : Line C) × (numbered book a.number ≡ Some y) × Of a.number y.cargo y.own y.again a
+  from_line : (book : List (Line C)) (a : Landing C) → Among a (arrivals_of book) → (y : Line C) × (numbered book a.number ≡ Some y) × Of a.number y.cargo y.own y.again a
   from_line [] a h = absurd h
   from_line (y ∷ ys) a h =
       elim (arrival_split y.own y.again (suc (length ys)) y.cargo (arrivals_of ys) a h) [
@@ -102,7 +124,7 @@ module _ {C : Type 0} where
       ]
 
   -- a line that was handed up from its own timeslot has an arrival
-  to_arrival : (book : List (Line C)) (k : ℕ) (y : Line C) → numbered book k ≡ Some y → y.own ≡ true → (a : Arrival C) × Among a (arrivals_of book) × (a.number ≡ k) × (a.own ≡ true)
+  to_arrival : (book : List (Line C)) (k : ℕ) (y : Line C) → numbered book k ≡ Some y → y.own ≡ true → (a : Landing C) × Among a (arrivals_of book) × (a.number ≡ k) × (a.own ≡ true)
   to_arrival [] k y h o = absurd cc
   to_arrival (x ∷ xs) k y h o =
       elim (numbered_cases x xs k y h) [
@@ -115,19 +137,19 @@ module _ {C : Type 0} where
         | inr g ↦ (let u = to_arrival xs k y g o in (u.0, arrival_more x.own x.again _ _ (arrivals_of xs) u.0 u.1, u.2, u.3))
       ]
 
-  line_bound : (book : List (Line C)) (a : Arrival C) → Among a (arrivals_of book) → (1 ≤ a.number) × (a.number ≤ length book)
+  line_bound : (book : List (Line C)) (a : Landing C) → Among a (arrivals_of book) → (1 ≤ a.number) × (a.number ≤ length book)
   line_bound book a h = let u = from_line book a h in numbered_bound book a.number u.0 u.1
 
-  falling_split : (own again : Bool) (y z : Arrival C) (rest : List (Arrival C)) → Falling rest → ((a : Arrival C) → Among a rest → a.number < y.number) → ((a : Arrival C) → Among a rest → a.number < z.number)
-      → Falling (cond own (y ∷ rest) (cond again (z ∷ rest) rest))
+  falling_split : (own again : Bool) (y z : Landing C) (rest : List (Landing C)) → Descending rest → ((a : Landing C) → Among a rest → a.number < y.number) → ((a : Landing C) → Among a rest → a.number < z.number)
+      → Descending (cond own (y ∷ rest) (cond again (z ∷ rest) rest))
   falling_split true again y z rest f p q = (p, f)
   falling_split false true y z rest f p q = (q, f)
   falling_split false false y z rest f p q = f
 
-  falling : (book : List (Line C)) → Falling (arrivals_of book)
+  falling : (book : List (Line C)) → Descending (arrivals_of book)
   falling [] = tt
   falling (y ∷ ys) =
-      let below : (a : Arrival C) → Among a (arrivals_of ys) → a.number < suc (length ys) = λ a h. (let b = line_bound ys a h in omega arith) in
+      let below : (a : Landing C) → Among a (arrivals_of ys) → a.number < suc (length ys) = λ a h. (let b = line_bound ys a h in omega arith) in
       falling_split y.own y.again _ _ (arrivals_of ys) (falling ys) below below
 
   just_at : (book : List (Line C)) (k : ℕ) (y : Line C) → AllJust book → numbered book k ≡ Some y → Just y
@@ -140,19 +162,19 @@ module _ {C : Type 0} where
 
 -- with what waits and what was sent
 module _ {C : Type 0} where
-  flying : (bit : Bool) (n : ℕ) (sent : Option C) (rest : List (Arrival C)) (a : Arrival C) → Among a (in_flight bit n sent ++ rest)
+  flying : (bit : Bool) (n : ℕ) (sent : Option C) (rest : List (Landing C)) (a : Landing C) → Among a (in_flight bit n sent ++ rest)
       → ((a.number ≡ suc n) × (sent ≡ Some a.cargo)) ⊎ Among a rest
   flying bit n None rest a h = inr h
   flying true n (Some x) rest a (inl e) = inl (ap (λ z. z.number) e, ap (λ z. Some z.cargo) (sym e))
   flying true n (Some x) rest a (inr h) = inr h
   flying false n (Some x) rest a h = inr h
 
-  flying_more : (bit : Bool) (n : ℕ) (sent : Option C) (rest : List (Arrival C)) (a : Arrival C) → Among a rest → Among a (in_flight bit n sent ++ rest)
+  flying_more : (bit : Bool) (n : ℕ) (sent : Option C) (rest : List (Landing C)) (a : Landing C) → Among a rest → Among a (in_flight bit n sent ++ rest)
   flying_more bit n None rest a h = h
   flying_more true n (Some x) rest a h = inr h
   flying_more false n (Some x) rest a h = h
 
-  flying_falling : (bit : Bool) (n : ℕ) (sent : Option C) (rest : List (Arrival C)) → Falling rest → ((a : Arrival C) → Among a rest → a.number < suc n) → Falling (in_flight bit n sent ++ rest)
+  flying_falling : (bit : Bool) (n : ℕ) (sent : Option C) (rest : List (Landing C)) → Descending rest → ((a : Landing C) → Among a rest → a.number < suc n) → Descending (in_flight bit n sent ++ rest)
   flying_falling bit n None rest f p = f
   flying_falling true n (Some x) rest f p = (p, f)
   flying_falling false n (Some x) rest f p = f
@@ -165,10 +187,10 @@ module _ {C : Type 0} where
   counted (Some w) (Some x) book = let a = length-map book (λ y. y.cargo) in let b = length-map book telling_of in omega arith
 
   module _ (waiting sent : Option C) (s : ℕ) (bit : Bool) (book : List (Line C)) where
-    abbrev flown_arrivals : List (Arrival C)
+    abbrev flown_arrivals : List (Landing C)
     flown_arrivals = in_flight bit (length book) sent ++ arrivals_of book
 
-    accepted_at : (a : Arrival C) → Among a flown_arrivals → numbered (listed waiting ++ (listed sent ++ map (λ y. y.cargo) book)) a.number ≡ Some a.cargo
+    accepted_at : (a : Landing C) → Among a flown_arrivals → numbered (listed waiting ++ (listed sent ++ map (λ y. y.cargo) book)) a.number ≡ Some a.cargo
     accepted_at a h =
         elim (flying bit (length book) sent (arrivals_of book) a h) [
           | inl e ↦ numbered_append (listed waiting) _ a.number a.cargo
@@ -180,7 +202,7 @@ module _ {C : Type 0} where
               (numbered_map (λ y. y.cargo) book a.number u.0 u.1 ∙ ap {B = Option C} Some (sym u.2.cargo))))
         ]
 
-    in_order : Falling flown_arrivals
+    in_order : Descending flown_arrivals
     in_order = flying_falling bit (length book) sent (arrivals_of book) (falling book) (λ a h. (let b = line_bound book a h in omega arith))
 
     told_later : (k : ℕ) (x : Telling) → numbered (map telling_of book) k ≡ Some x → (t : ℕ) × (numbered (since s sent ++ map (λ y. y.sent) book) k ≡ Some t) × (x.superframe ≡ suc t)
@@ -189,7 +211,7 @@ module _ {C : Type 0} where
         (u.0.sent, numbered_append (since s sent) _ k u.0.sent (numbered_map (λ y. y.sent) book k u.0 u.1), ap (λ (z : Telling). z.superframe) u.2)
 
     -- an arrival of a line whose fate was told
-    told_arrival : (k : ℕ) (y : Line C) (a : Arrival C) → numbered book k ≡ Some y → Among a flown_arrivals → a.number ≡ k → Of k y.cargo y.own y.again a
+    told_arrival : (k : ℕ) (y : Line C) (a : Landing C) → numbered book k ≡ Some y → Among a flown_arrivals → a.number ≡ k → Of k y.cargo y.own y.again a
     told_arrival k y a h i e =
         elim (flying bit (length book) sent (arrivals_of book) a i) [
           | inl f ↦ (let b = numbered_bound book k y h in let g = f.0 in absurd (omega arith))
@@ -205,7 +227,7 @@ module _ {C : Type 0} where
         ]
 
     module _ (just : AllJust book) (k : ℕ) (x : Telling) (h : numbered (map telling_of book) k ≡ Some x) where
-      confirmed_handed : x.fate ≡ fate.Confirmed → ((a : Arrival C) × Among a flown_arrivals × (a.number ≡ k) × (a.own ≡ true)) × (x.online ≡ true)
+      confirmed_handed : x.fate ≡ fate.Confirmed → ((a : Landing C) × Among a flown_arrivals × (a.number ≡ k) × (a.own ≡ true)) × (x.online ≡ true)
       confirmed_handed c =
           let u = numbered_unmap telling_of book k x h in
           let j = just_at book k u.0 just u.1 in
@@ -213,14 +235,14 @@ module _ {C : Type 0} where
           let a = to_arrival book k u.0 u.1 p.0 in
           ((a.0, flying_more bit (length book) sent (arrivals_of book) a.0 a.1, a.2, a.3), ap (λ (z : Telling). z.online) u.2 ∙ p.1)
 
-      handed_confirmed : ((a : Arrival C) × Among a flown_arrivals × (a.number ≡ k) × (a.own ≡ true)) × (x.online ≡ true) → x.fate ≡ fate.Confirmed
+      handed_confirmed : ((a : Landing C) × Among a flown_arrivals × (a.number ≡ k) × (a.own ≡ true)) × (x.online ≡ true) → x.fate ≡ fate.Confirmed
       handed_confirmed p =
           let u = numbered_unmap telling_of book k x h in
           let j = just_at book k u.0 just u.1 in
           let o = told_arrival k u.0 p.0.0 u.1 p.0.1 p.0.2 in
           ap (λ (z : Telling). z.fate) u.2 ∙ j.handed_up (sym o.own_is ∙ p.0.3) (sym (ap (λ (z : Telling). z.online) u.2) ∙ p.1)
 
-      lost_never : x.fate ≡ fate.Lost → (a : Arrival C) → Among a flown_arrivals → a.number ≡ k → ⊥
+      lost_never : x.fate ≡ fate.Lost → (a : Landing C) → Among a flown_arrivals → a.number ≡ k → ⊥
       lost_never c a i e =
           let u = numbered_unmap telling_of book k x h in
           let j = just_at book k u.0 just u.1 in
@@ -241,10 +263,7 @@ sent_at (Some x) s book k t h =
     ]
 
 module _ {C : Type 0} (m : PlanMeaning) (devices : Devices) (ds : List (Deed C)) (d : ℕ) (l : Learns d ds) where
-  abbrev r : ℕ
-  r = m.numbers.retransmission
-
-  next_tells : (sent : Option C) (s : ℕ) (book : List (Line C)) → own_sendings r d ds ≡ since s sent ++ map (λ y. y.sent) book → told d ds ≡ map telling_of book
+  next_tells : (sent : Option C) (s : ℕ) (book : List (Line C)) → own_sendings d (for_retransmission m.numbers) ds ≡ since s sent ++ map (λ y. y.sent) book → told d ds ≡ map telling_of book
       → ((x : Learning) → Among x (learnings d ds) → x.superframe ≡ suc s → ⊥) → TheNextNewsTellsTheFate m devices ds d
   next_tells sent s book sends tells never k t x at among is =
       elim (sent_at sent s book k t (sym (ap (λ (z : List ℕ). numbered z k) sends) ∙ at)) [
@@ -285,29 +304,38 @@ pub record Carried {C : Type 0} (image : C → List ℕ) (m : PlanMeaning) (devi
 
 pub from_book : {C : Type 0} (image : C → List ℕ) (m : PlanMeaning) (devices : Devices) (ds : List (Deed C)) (d : ℕ)
     → Carried image m devices ds d → (simple : Option ℕ) (waiting sent : Option C) (k : ℕ) (bit : Bool) (book : List (Line C))
-    → simple_of m (devices.address d) ≡ simple → Agrees m.numbers.retransmission simple d ds waiting sent k bit book → ((x : Learning) → Among x (learnings d ds) → x.superframe ≡ suc k → ⊥) → DeviceGuaranteed m devices ds d image
+    → simple_of m (devices.address d) ≡ simple → Agrees (for_retransmission m.numbers) simple d ds waiting sent k bit book
+    → ((x : Learning) → Among x (learnings d ds) → x.superframe ≡ suc k → ⊥) → DeviceGuaranteed m devices ds d image
 from_book {C = C} image m devices ds d carried simple waiting sent k bit book q g never =
-    let arrived : arrivals m.numbers.retransmission (simple_of m (devices.address d)) d ds ≡ flown_arrivals waiting sent k bit book =
-    ap (λ (s : Option ℕ). arrivals m.numbers.retransmission s d ds) q ∙ g.arrives in
+    let r = for_retransmission m.numbers in
+    let xs : List (Arrival C) = arrivals d r (simple_of m (devices.address d)) ds in
+    let arrived : map landing_of xs ≡ flown_arrivals waiting sent k bit book =
+    ap (λ (s : Option ℕ). map landing_of (arrivals d r s ds)) q ∙ g.arrives in
+    let landed : (x : Arrival C) → Among x xs → Among (landing_of x) (flown_arrivals waiting sent k bit book) = λ x h.
+    subst (λ (l : List (Landing C)). Among (landing_of x) l) arrived (landed_among xs x h) in
     let next : FatesComeWithTheNextSuperframe m devices ds d = λ i x h.
     (let r = told_later waiting sent k bit book i x (subst (λ (l : List Telling). numbered l i ≡ Some x) g.tells h) in
     (r.0, ap (λ (l : List ℕ). numbered l i) g.sends ∙ r.1, r.2)) in
     let by_news : ConfirmedGoesByTheNewsThatTellsIt m devices ds d = λ i x h.
     (let h' = subst (λ (l : List Telling). numbered l i ≡ Some x) g.tells h in (
-      λ c. subst (λ (l : List (Arrival C)). ((a : Arrival C) × Among a l × (a.number ≡ i) × (a.own ≡ true)) × (x.online ≡ true)) (sym arrived) (confirmed_handed waiting sent k bit book g.just i x h' c),
-      λ p. handed_confirmed waiting sent k bit book g.just i x h' (subst (λ (l : List (Arrival C)). ((a : Arrival C) × Among a l × (a.number ≡ i) × (a.own ≡ true)) × (x.online ≡ true)) arrived p),
+      λ c.
+          let p = confirmed_handed waiting sent k bit book g.just i x h' c in
+          let u = arrival_at xs p.0.0 (subst (λ (l : List (Landing C)). Among p.0.0 l) (sym arrived) p.0.1) in
+          ((u.0, u.1, ap (λ (a : Landing C). a.number) u.2 ∙ p.0.2, ap (λ (a : Landing C). a.own) u.2 ∙ p.0.3), p.1),
+      λ p. handed_confirmed waiting sent k bit book g.just i x h' ((landing_of p.0.0, landed p.0.0 p.0.1, p.0.2, p.0.3), p.1),
     )) in
-    let fate_told : TheNextNewsTellsTheFate m devices ds d = next_tells m devices ds d carried.learns sent k book g.sends g.tells never in
+    let fate_told : TheNextNewsTellsTheFate m devices ds d =
+    next_tells m devices ds d carried.learns sent k book g.sends g.tells never in
     record {
-      accepted_before = λ x h. ap (λ (l : List C). numbered l x.number) g.accepts ∙ accepted_at waiting sent k bit book x (subst (λ (l : List (Arrival C)). Among x l) arrived h);
-      in_order = subst (λ (l : List (Arrival C)). Falling l) (sym arrived) (in_order waiting sent k bit book);
-      accounted = (let a = ap length g.accepts in let b = ap length g.tells in let c = counted waiting sent book in let e = g.sent_since in let f = g.waits in omega arith);
+      accepted_before = λ x h. ap (λ (l : List C). numbered l x.frame.number) g.accepts ∙ accepted_at waiting sent k bit book (landing_of x) (landed x h);
+      in_order = descending xs (subst (λ (l : List (Landing C)). Descending l) (sym arrived) (in_order waiting sent k bit book));
+      accounted = (let a = ap length g.accepts in let b = ap length g.tells in let c = counted waiting sent book in let e = g.under_way in let f = g.waits in omega arith);
       next_superframe = next;
       fate_told = fate_told;
       by_news = by_news;
       confirmed = exactly m devices ds d carried.learns by_news next fate_told;
       lost = λ i x h c y a e.
-          lost_never waiting sent k bit book g.just i x (subst (λ (l : List Telling). numbered l i ≡ Some x) g.tells h) c y (subst (λ (l : List (Arrival C)). Among y l) arrived a) e;
+          lost_never waiting sent k bit book g.just i x (subst (λ (l : List Telling). numbered l i ≡ Some x) g.tells h) c (landing_of y) (landed y a) e;
       own_frames_carry = carried.own;
       of_its_frame = carried.of_its_frame;
       own_first = carried.own_first;
@@ -317,33 +345,19 @@ from_book {C = C} image m devices ds d carried simple waiting sent k bit book q 
     }
 
 -- without a simple address nothing arrives
-arrivals_none : {C : Type 0} (r e : ℕ) (ds : List (Deed C)) → arrivals r None e ds ≡ []
+arrivals_none : {C : Type 0} (r : ℕ → Bool) (e : ℕ) (ds : List (Deed C)) → arrivals e r None ds ≡ []
 arrivals_none r e [] = refl
-arrivals_none r e (opening xs ∷ ds) = arrivals_none r e ds
-arrivals_none r e (closing ∷ ds) = arrivals_none r e ds
 arrivals_none r e (hand_up t xs simple x ∷ ds) = arrivals_none r e ds
-arrivals_none r e (reply xs ∷ ds) = arrivals_none r e ds
-arrivals_none r e (news d b told ∷ ds) = arrivals_none r e ds
-arrivals_none r e (acceptance d x ∷ ds) = arrivals_none r e ds
-arrivals_none r e (transmission d t xs ∷ ds) = arrivals_none r e ds
-arrivals_none r e (taking d xs ∷ ds) = arrivals_none r e ds
-arrivals_none r e (nothing ∷ ds) = arrivals_none r e ds
+arrivals_none r e (d ∷ ds) = arrivals_none r e ds
 
 -- what was sent in the own timeslot was sent
-own_sent : {C : Type 0} (r e : ℕ) (ds : List (Deed C)) (t : ℕ) → Among t (own_sendings r e ds) → (x : Sending) × Among x (sendings ds) × (x.device ≡ e)
+own_sent : (r : ℕ → Bool) (e : ℕ) (xs : List Sending) (t : ℕ) → Among t (map (λ (x : Sending). x.superframe) (filter (is_own e r) xs))
+    → (x : Sending) × Among x xs × (x.device ≡ e)
 own_sent r e [] t h = absurd h
-own_sent r e (opening xs ∷ ds) t h = own_sent r e ds t h
-own_sent r e (closing ∷ ds) t h = own_sent r e ds t h
-own_sent r e (hand_up t2 xs simple x ∷ ds) t h = own_sent r e ds t h
-own_sent r e (reply xs ∷ ds) t h = own_sent r e ds t h
-own_sent r e (news d b φ ∷ ds) t h = own_sent r e ds t h
-own_sent r e (acceptance d x ∷ ds) t h = own_sent r e ds t h
-own_sent r e (transmission d u xs ∷ ds) t h = elim (cases_eq d e) [
-  | inl same ↦ (_, inl refl, same)
-  | inr differ ↦ (let w = own_sent r e ds t (rw (ne_eqb d e differ) at h) in (w.0, inr w.1, w.2))
+own_sent r e (x ∷ xs) t h = elim (cases_eq x.device e) [
+  | inl same ↦ (x, inl refl, same)
+  | inr differ ↦ (let w = own_sent r e xs t (rw (ne_eqb x.device e differ) at h) in (w.0, inr w.1, w.2))
 ]
-own_sent r e (taking d xs ∷ ds) t h = own_sent r e ds t h
-own_sent r e (nothing ∷ ds) t h = own_sent r e ds t h
 
 none_told : (ts : List Telling) (k : ℕ) (x : Telling) → ts ≡ [] → numbered ts k ≡ Some x → ⊥
 none_told ts k x e h =
@@ -354,15 +368,15 @@ pub from_outside : {C : Type 0} (image : C → List ℕ) (m : PlanMeaning) (devi
     → Carried image m devices ds d → (v : Device C)
     → simple_of m (devices.address d) ≡ None → Outside d v ds → DeviceGuaranteed m devices ds d image
 from_outside {C = C} image m devices ds d carried v q o =
-    let r = m.numbers.retransmission in
-    let arrived : arrivals r (simple_of m (devices.address d)) d ds ≡ [] = ap (λ (s : Option ℕ). arrivals r s d ds) q ∙ arrivals_none r d ds in
+    let r = for_retransmission m.numbers in
+    let arrived : arrivals d r (simple_of m (devices.address d)) ds ≡ [] = ap (λ (s : Option ℕ). arrivals d r s ds) q ∙ arrivals_none r d ds in
     let next : FatesComeWithTheNextSuperframe m devices ds d = λ i x h. absurd (none_told (told d ds) i x o.no_told h) in
     let by_news : ConfirmedGoesByTheNewsThatTellsIt m devices ds d = λ i x h. absurd (none_told (told d ds) i x o.no_told h) in
-    let fate_told : TheNextNewsTellsTheFate m devices ds d = λ i t x at among is. (let w = own_sent r d ds t (numbered_among (own_sendings r d ds) i t at) in absurd (o.no_sendings w.0 w.1 w.2)) in
+    let fate_told : TheNextNewsTellsTheFate m devices ds d = λ i t x at among is. (let w = own_sent r d (sendings ds) t (numbered_among (own_sendings d r ds) i t at) in absurd (o.no_sendings w.0 w.1 w.2)) in
     record {
       accepted_before = λ x h. absurd (subst (λ (l : List (Arrival C)). Among x l) arrived h);
       in_order = subst (λ (l : List (Arrival C)). Falling l) (sym arrived) tt;
-      accounted = (let a = ap length o.no_accepted in let b = ap length o.no_told in let e = o.no_since r in let f = o.no_waits r in omega arith);
+      accounted = (let a = ap length o.no_accepted in let b = ap length o.no_told in let e = o.none_under_way r in let f = o.no_waits r in omega arith);
       next_superframe = next;
       fate_told = fate_told;
       by_news = by_news;

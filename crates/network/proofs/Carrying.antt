@@ -1,56 +1,34 @@
 -- Which acceptance a frame carries: in its own timeslot the next one, and in a timeslot for retransmission the one whose fate was told last.
-use Rattle.std.proofs.Common.{◌≡◌, ℕ, suc, Bool, true, false, cond, eqb, leb, List, [], ◌∷◌, ◌++◌, map, length, is_some, Some, None, Option, sym, refl, ap, ◌∙◌, subst, inl, inr, ⊎_elim, arith}
+use Rattle.std.proofs.Common.{◌≡◌, ℕ, suc, Bool, true, false, eqb, List, [], ◌∷◌, ◌++◌, map, filter, length, is_some, Some, None, Option, sym, refl, ap, ◌∙◌, subst, inl, inr, ⊎_elim, arith}
 use lib.ListN.{length-map}
-use Rattle.std.proofs.lemmas.Bool.{cases_eq, eq-eqb, ne_eqb, le-leb, lt-leb, cond-true, cond-false}
+use Rattle.std.specs.List.{cons_option}
+use Rattle.std.proofs.lemmas.Bool.{cases_eq, eq-eqb, ne_eqb}
 use Rattle.plan.specs.declared.grant.Grant.{Grant}
 use Rattle.plan.specs.Rules.{PlanMeaning, Rules}
-use Rattle.plan.proofs.Lawful.{grant_within}
-use Rattle.repeats.proofs.Serving.{within}
+use Rattle.repeats.specs.Starts.{for_retransmission}
 use Rattle.coordinator.specs.declared.state.Inner.{Inner}
 use Rattle.device.specs.declared.state.Device.{Device}
 use Rattle.device.specs.declared.state.Fate.{Fate}
 use Rattle.device.specs.declared.state.Fate.TheVariants as fate
-use Rattle.network.specs.Deeds.{Deed, opening, closing, hand_up, reply, news, acceptance, transmission, taking, nothing}
-use Rattle.network.specs.History.{numbered, Sending, Telling, Repetition, telling, superframes, announced, accepted, told, own_sendings, own_frames}
+use Rattle.network.specs.Deeds.{Deed, news, acceptance, transmission}
+use Rattle.network.specs.History.{numbered, Sending, Telling, Repetition, superframes, announced, learned, sendings, accepted, told, is_own, own_sendings, own_frames, repeated}
 use Rattle.network.specs.Guarantee.{grant_of, OwnFramesCarryTheirAcceptances, RepeatsCarryWhatWasToldRepeated}
 use Rattle.network.specs.Runs.{Devices, KeepsRules}
 use Rattle.network.proofs.Accounts.{numbered_top, numbered_cases, numbered_more, numbered_append, numbered_map}
 use Rattle.network.proofs.Books.{Line, telling_of, listed, since}
+use Rattle.network.proofs.FramesAreOwnOrRepeats.{own_is_no_repeat, repeats_are_for_retransmission}
 use Rattle.network.proofs.Hearing.{grant_found}
+use Rattle.network.proofs.RepeatsAreOfTheLastTold.{last_told}
 use Rattle.network.proofs.Sound.{Sound, OwnFrame, AgainFrame, Standing, frame_with}
 
--- lists that grow at a device, or not
-as_long : {A B : Type 0} (b c : Bool) (x : A) (y : B) (xs : List A) (ys : List B) → length xs ≡ length ys
-    → length (cond b (cond c xs (x ∷ xs)) xs) ≡ length (cond b (cond c ys (y ∷ ys)) ys)
-as_long true true x y xs ys e = e
-as_long true false x y xs ys e = ap suc e
-as_long false c x y xs ys e = e
-
-grown : {A : Type 0} (b c : Bool) (xs ys : List A) → b ≡ true → c ≡ false → cond b (cond c xs ys) xs ≡ ys
-grown b c xs ys p q = cond-true b _ _ p ∙ cond-false c _ _ q
-
--- entries keep their numbers where others may be put in front
-numbered_if : {A : Type 0} (b : Bool) (x : A) (xs : List A) (k : ℕ) (z : A) → numbered xs k ≡ Some z → numbered (cond b (x ∷ xs) xs) k ≡ Some z
-numbered_if true x xs k z h = numbered_more x xs k z h
-numbered_if false x xs k z h = h
-
-pub numbered_telling : (b : Bool) (s : ℕ) (online : Bool) (φ : Option Fate) (ts : List Telling) (k : ℕ) (z : Telling) → numbered ts k ≡ Some z → numbered (cond b (telling s online φ ts) ts) k ≡ Some z
-numbered_telling true s online None ts k z h = h
-numbered_telling true s online (Some φ) ts k z h = numbered_more _ ts k z h
-numbered_telling false s online φ ts k z h = h
+-- entries keep their numbers where another may be put in front
+pub numbered_kept : {A : Type 0} (o : Option A) (xs : List A) (k : ℕ) (z : A) → numbered xs k ≡ Some z → numbered (cons_option o xs) k ≡ Some z
+numbered_kept None xs k z h = h
+numbered_kept (Some x) xs k z h = numbered_more x xs k z h
 
 -- the frames in its own timeslot are as many as the superframes in which a device sent there
-as_many : {C : Type 0} (r e : ℕ) (ds : List (Deed C)) → length (own_frames r e ds) ≡ length (own_sendings r e ds)
-as_many r e [] = refl
-as_many r e (opening xs ∷ ds) = as_many r e ds
-as_many r e (closing ∷ ds) = as_many r e ds
-as_many r e (hand_up t xs simple x ∷ ds) = as_many r e ds
-as_many r e (reply xs ∷ ds) = as_many r e ds
-as_many r e (news d b told ∷ ds) = as_many r e ds
-as_many r e (acceptance d x ∷ ds) = as_many r e ds
-as_many r e (transmission d t xs ∷ ds) = as_long (eqb d e) (leb t r) xs (superframes ds) (own_frames r e ds) (own_sendings r e ds) (as_many r e ds)
-as_many r e (taking d xs ∷ ds) = as_many r e ds
-as_many r e (nothing ∷ ds) = as_many r e ds
+as_many : {C : Type 0} (again : ℕ → Bool) (e : ℕ) (ds : List (Deed C)) → length (own_frames e again ds) ≡ length (own_sendings e again ds)
+as_many again e ds = let xs = filter (is_own e again) (sendings ds) in length-map xs (λ (x : Sending). x.octets) ∙ sym (length-map xs (λ (x : Sending). x.superframe))
 
 -- acceptances by a book
 module _ {C : Type 0} where
@@ -83,8 +61,8 @@ module _ {C : Type 0} (image : C → List ℕ) (m : PlanMeaning) (devices : Devi
     pub own : OwnFramesCarryTheirAcceptances m devices ds e image
     pub again : RepeatsCarryWhatWasToldRepeated m devices ds e image
 
-  abbrev r : ℕ
-  r = m.numbers.retransmission
+  abbrev r : ℕ → Bool
+  r = for_retransmission m.numbers
 
   pub begun_carries : Carries []
   begun_carries = record { own = λ k xs h. (absurd cc); again = λ y none. absurd none }
@@ -93,41 +71,41 @@ module _ {C : Type 0} (image : C → List ℕ) (m : PlanMeaning) (devices : Devi
     -- an acceptance or a telling is put in front of the earlier ones
     acceptance_carries : (d : ℕ) (x : C) → Carries (acceptance d x ∷ ds)
     acceptance_carries d x = record {
-      own = λ k xs h. (let w = c.own k xs h in (w.0, numbered_if (eqb d e) x (accepted e ds) k w.0 w.1, w.2));
-      again = λ y among. (let w = c.again y among in (w.0, w.1, numbered_if (eqb d e) x (accepted e ds) y.number w.0 w.2, w.3, w.4, w.5));
+      own = λ k xs h. (let w = c.own k xs h in (w.0, numbered_kept _ (accepted e ds) k w.0 w.1, w.2));
+      again = λ y among. (let w = c.again y among in (w.0, w.1, numbered_kept _ (accepted e ds) y.number w.0 w.2, w.3, w.4, w.5, w.6));
     }
 
     news_carries : (d : ℕ) (b : Option (List ℕ)) (φ : Option Fate) → Carries (news d b φ ∷ ds)
     news_carries d b φ = record {
       own = c.own;
-      again = λ y among. (let w = c.again y among in (w.0, w.1, w.2, w.3, numbered_telling (eqb d e) (superframes ds) _ φ (told e ds) y.number w.1 w.4, w.5));
+      again = λ y among. (let w = c.again y among in (w.0, w.1, w.2, w.3, numbered_kept _ (told e ds) y.number w.1 w.4, w.5, w.6));
     }
 
     -- the frame of another device
     elsewhere_carries : (d t : ℕ) (xs : List ℕ) → (d ≡ e → ⊥) → Carries (transmission d t xs ∷ ds)
     elsewhere_carries d t xs differ = let q = ne_eqb d e differ in record { own = rw q c.own; again = rw q c.again }
 
-    module _ (rules : Rules m) (k : Inner) (v : Device C) (opened : k.opened ≡ true) (d t : ℕ) (xs : List ℕ) (same : d ≡ e) where
+    module _ (rules : Rules m) (k : Inner) (v : Device C) (opened : k.opened ≡ true) (aware : learned e ds ≡ true) (d t : ℕ) (xs : List ℕ) (same : d ≡ e) where
       abbrev this : Sending
       this = record { device = d; superframe = superframes ds; timeslot = t; octets = xs }
 
       -- what a repeat carries
       abbrev Carried : Repetition → Type 0
-      Carried y = (x : C) × (z : Telling) × (numbered (accepted e ds) y.number ≡ Some x) × (y.octets ≡ frame_with image m.numbers x) × (numbered (told e ds) y.number ≡ Some z) × (z.fate ≡ fate.Repeated)
+      Carried y =
+          (x : C) × (z : Telling) × (numbered (accepted e ds) y.number ≡ Some x) × (y.octets ≡ frame_with image m.numbers x)
+          × (numbered (told e ds) y.number ≡ Some z) × (z.fate ≡ fate.Repeated) × (y.number ≡ y.told)
 
       module _ (g : Grant) (found : grant_of m (devices.address e) ≡ Some g) (s : Sound image m.numbers e g k.opened k.gathered k.sent k.last v (transmission d t xs ∷ ds)) where
         -- in its own timeslot
         own_carries : OwnFrame image m.numbers g v this → Carries (transmission d t xs ∷ ds)
         own_carries w =
             let at = grant_found m rules (devices.address e) g found in
-            let b = grant_within m rules at.0 g at.1 in
-            let f = w.timeslot in
             let q : eqb d e ≡ true = eq-eqb d e same in
-            let high : leb t r ≡ false = lt-leb t r (omega arith) in
-            let lines : length (own_frames r e ds) ≡ length s.book =
-            as_many r e ds ∙ before_flying (superframes ds) _ v.sent w.cargo s.book (own_sendings r e ds) w.sent (sym (grown (eqb d e) (leb t r) (own_sendings r e ds) (superframes ds ∷ own_sendings r e ds) q high) ∙ s.agrees.sends) in
+            let high : r t ≡ false = ap r w.timeslot ∙ own_is_no_repeat m rules at.0 g at.1 in
+            let lines : length (own_frames e r ds) ≡ length s.book =
+            as_many r e ds ∙ before_flying (superframes ds) _ v.sent w.cargo s.book (own_sendings e r ds) w.sent (rw (q, high) at s.agrees.sends) in
             record {
-              own = rw (q, high) (λ j ys h. elim (numbered_cases xs (own_frames r e ds) j ys h) [
+              own = rw (q, high) (λ j ys h. elim (numbered_cases xs (own_frames e r ds) j ys h) [
                 | inl z ↦ (
                   w.cargo,
                   ap (λ (l : List C). numbered l j) s.agrees.accepts ∙ flying_accepted v.waiting v.sent w.cargo s.book j w.sent (z.0 ∙ ap suc lines),
@@ -142,20 +120,21 @@ module _ {C : Type 0} (image : C → List ℕ) (m : PlanMeaning) (devices : Devi
         again_carries : AgainFrame image m.numbers g k.sent k.last v s.book this → Carries (transmission d t xs ∷ ds)
         again_carries w =
             let at = grant_found m rules (devices.address e) g found in
-            let b = grant_within m rules at.0 g at.1 in
-            let i = within m k.sent t at.0 g at.1 (t, w.to_repeat.starts, omega arith, omega arith) in
             let q : eqb d e ≡ true = eq-eqb d e same in
-            let low : leb t r ≡ true = le-leb t r (omega arith) in
+            let low : r t ≡ true = repeats_are_for_retransmission m rules at.0 g at.1 k.sent t w.to_repeat.starts in
             let top = w.to_repeat.top in
-            let lines : length (told e ds) ≡ length s.book = ap length s.agrees.tells ∙ length-map s.book telling_of in
-            let line : numbered s.book (length (told e ds)) ≡ Some top = topped top w.to_repeat.rest s.book (length (told e ds)) w.to_repeat.book_is lines in
-            let newest : Carried (record { number = length (told e ds); octets = xs }) = (
+            let number : ℕ = repeated e r ds in
+            let lines : number ≡ length s.book = rw (q, low) at (last_told r e k.opened (learned e ds) opened aware (transmission d t xs ∷ ds) v.waiting v.sent _ _ s.book s.agrees) in
+            let tells : length (told e ds) ≡ length s.book = ap length s.agrees.tells ∙ length-map s.book telling_of in
+            let line : numbered s.book number ≡ Some top = topped top w.to_repeat.rest s.book number w.to_repeat.book_is lines in
+            let newest : Carried (record { number = number; told = length (told e ds); octets = xs }) = (
               top.cargo,
               telling_of top,
-              ap (λ (l : List C). numbered l (length (told e ds))) s.agrees.accepts ∙ lined_accepted v.waiting v.sent top s.book (length (told e ds)) line,
+              ap (λ (l : List C). numbered l number) s.agrees.accepts ∙ lined_accepted v.waiting v.sent top s.book number line,
               w.octets ∙ ap (frame_with image m.numbers) (sym w.to_repeat.cargo),
-              ap (λ (l : List Telling). numbered l (length (told e ds))) s.agrees.tells ∙ numbered_map telling_of s.book (length (told e ds)) top line,
+              ap (λ (l : List Telling). numbered l number) s.agrees.tells ∙ numbered_map telling_of s.book number top line,
               w.to_repeat.fate,
+              lines ∙ sym tells,
             ) in
             record {
               own = rw (q, low) c.own;
@@ -171,15 +150,10 @@ module _ {C : Type 0} (image : C → List ℕ) (m : PlanMeaning) (devices : Devi
 
     -- every deed keeps it, by what holds after the deed
     pub next_carries : Rules m → (k : Inner) (v : Device C) (deed : Deed C) → KeepsRules devices.count ds deed → (is_some (announced (deed ∷ ds)) ≡ true → k.opened ≡ true) → Standing image m.numbers e (grant_of m (devices.address e)) k v (deed ∷ ds) → Carries (deed ∷ ds)
-    next_carries rules k v (opening xs) keeps opened s = record { own = c.own; again = c.again }
-    next_carries rules k v closing keeps opened s = record { own = c.own; again = c.again }
-    next_carries rules k v (hand_up t xs simple x) keeps opened s = record { own = c.own; again = c.again }
-    next_carries rules k v (reply xs) keeps opened s = record { own = c.own; again = c.again }
     next_carries rules k v (news d b φ) keeps opened s = news_carries d b φ
     next_carries rules k v (acceptance d x) keeps opened s = acceptance_carries d x
     next_carries rules k v (transmission d t xs) keeps opened s = elim (cases_eq d e) [
-      | inl same ↦ by_grant rules k v (opened keeps.0) d t xs same (grant_of m (devices.address e)) refl s
+      | inl same ↦ by_grant rules k v (opened keeps.0) (subst (λ (z : ℕ). learned z ds ≡ true) same keeps.1) d t xs same (grant_of m (devices.address e)) refl s
       | inr differ ↦ elsewhere_carries d t xs differ
     ]
-    next_carries rules k v (taking d xs) keeps opened s = record { own = c.own; again = c.again }
-    next_carries rules k v nothing keeps opened s = record { own = c.own; again = c.again }
+    next_carries rules k v deed keeps opened s = record { own = c.own; again = c.again }

@@ -15,7 +15,8 @@ use Rattle.plan.specs.declared.grant.Grant.{Grant}
 use Rattle.plan.specs.declared.grant.Numbers.{Numbers}
 use Rattle.plan.specs.Rules.{PlanMeaning, Rules, grant_at}
 use Rattle.plan.proofs.Lawful.{addresses_differ, grant_keeps, grant_within}
-use Rattle.repeats.proofs.Starting.{started}
+use Rattle.repeats.specs.Starts.{repeat_start, for_retransmission}
+use Rattle.network.proofs.FramesAreOwnOrRepeats.{own_is_no_repeat, repeats_are_for_retransmission}
 use Rattle.coordinator.specs.declared.state.Inner.{Inner}
 use Rattle.coordinator.specs.Beacons.{configuration_for}
 use Rattle.coordinator.specs.Steps.{beacon_of}
@@ -74,7 +75,8 @@ module _ {C : Type 0} (image : C → List ℕ) (n : Numbers) (e : ℕ) (g : Gran
         sends = s.agrees.sends;
         arrives = s.agrees.arrives;
         just = s.agrees.just;
-        sent_since = s.agrees.sent_since;
+        before = s.agrees.before;
+        under_way = s.agrees.under_way;
         waits = s.agrees.waits;
       };
       unheard = s.unheard;
@@ -121,7 +123,8 @@ module _ {C : Type 0} (image : C → List ℕ) (n : Numbers) (e : ℕ) (g : Gran
           sends = s.agrees.sends;
           arrives = s.agrees.arrives;
           just = s.agrees.just;
-          sent_since = s.agrees.sent_since;
+          before = s.agrees.before;
+          under_way = s.agrees.under_way;
           waits = rw itself refl;
         };
         unheard = s.unheard;
@@ -235,10 +238,11 @@ module _ {C : Type 0} (image : C → List ℕ) (n : Numbers) (e : ℕ) (g : Gran
         | inr f ↦ (aware, inr (record { cargo = f.cargo; to_repeat = f.to_repeat; octets = f.octets; spent = f.spent; once = f.once }))
       ]
 
-  fresh_sent : (x : C) → (v.configuration ≡ None → ⊥) → v.waiting ≡ Some x → v.sent ≡ None → t ≡ g.first → n.retransmission < g.first → Then (after_turn v (fresh x)) (transmission e t (frame_with image n x) ∷ ds)
-  fresh_sent x some waits none own above =
+  fresh_sent : (x : C) → (v.configuration ≡ None → ⊥) → v.waiting ≡ Some x → v.sent ≡ None → t ≡ g.first
+      → for_retransmission n g.first ≡ false → Then (after_turn v (fresh x)) (transmission e t (frame_with image n x) ∷ ds)
+  fresh_sent x some waits none own not_again =
       let itself = eq-eqb e e refl in
-      let late : leb t n.retransmission ≡ false = lt-leb _ _ (omega arith) in
+      let late : for_retransmission n t ≡ false = ap (for_retransmission n) own ∙ not_again in
       let bit = s.quiet none in
       record {
         address = s.address;
@@ -251,7 +255,8 @@ module _ {C : Type 0} (image : C → List ℕ) (n : Numbers) (e : ℕ) (g : Gran
           sends = rw (itself, late, aware) (ap (λ (l : List ℕ). superframes ds ∷ l) (rw none at s.agrees.sends));
           arrives = rw bit (rw none at s.agrees.arrives);
           just = s.agrees.just;
-          sent_since = rw (itself, late) refl;
+          before = s.agrees.before;
+          under_way = rw (itself, late) refl;
           waits = rw (itself, late) refl;
         };
         unheard = s.unheard;
@@ -274,12 +279,13 @@ module _ {C : Type 0} (image : C → List ℕ) (n : Numbers) (e : ℕ) (g : Gran
         | inr f ↦ let before = f.spent in absurd cc
       ]
 
-  again_sent : (x : C) → v.repeat ≡ Some (record { start = t; cargo = x }) → 1 ≤ g.width → Then (after_turn v (again x)) (transmission e t (frame_with image n x) ∷ ds)
-  again_sent x some wide =
+  again_sent : (x : C) → v.repeat ≡ Some (record { start = t; cargo = x })
+      → ((s : ℕ) → repeat_start n sent g ≡ Some s → for_retransmission n s ≡ true)
+      → Then (after_turn v (again x)) (transmission e t (frame_with image n x) ∷ ds)
+  again_sent x some again_starts =
       let itself = eq-eqb e e refl in
       let due = s.due (record { start = t; cargo = x }) some refl aware in
-      let start = started n sent g t due.0.starts in
-      let early : leb t n.retransmission ≡ true = le-leb _ _ (omega arith) in
+      let early : for_retransmission n t ≡ true = again_starts t due.0.starts in
       record {
         address = s.address;
         configured = s.configured;
@@ -291,7 +297,8 @@ module _ {C : Type 0} (image : C → List ℕ) (n : Numbers) (e : ℕ) (g : Gran
           sends = rw (itself, early) s.agrees.sends;
           arrives = s.agrees.arrives;
           just = s.agrees.just;
-          sent_since = rw (itself, early) s.agrees.sent_since;
+          before = s.agrees.before;
+          under_way = rw (itself, early) s.agrees.under_way;
           waits = rw (itself, early) s.agrees.waits;
         };
         unheard = s.unheard;
@@ -372,16 +379,16 @@ module _ {C : Type 0} (image : C → List ℕ) (m : PlanMeaning) (rules : Rules 
   turned_fresh : (x : C) (t : ℕ) → Turned (fresh x) t → At v ds k.opened → (is_some (announced ds) ≡ true) × (learned e ds ≡ true) → At (after_turn v (fresh x)) (transmission e t (frame_with image m.numbers x) ∷ ds) k.opened
   turned_fresh x t facts s keeps =
       let opened = open_now k.opened (announced ds) (beacon_of m.numbers k) steady.announces keeps.0 in
-      let w = grant_within m rules i g at in
       subst (At (after_turn v (fresh x)) (transmission e t (frame_with image m.numbers x) ∷ ds)) (sym opened)
-      (fresh_sent image m.numbers e g k.gathered k.sent k.last v ds keeps.1 (subst (At v ds) opened s) t x facts.0 facts.1 facts.2 facts.3 w.0)
+      (fresh_sent image m.numbers e g k.gathered k.sent k.last v ds keeps.1 (subst (At v ds) opened s) t x facts.0 facts.1 facts.2 facts.3
+      (own_is_no_repeat m rules i g at))
 
   turned_again : (x : C) (t : ℕ) → Turned (again x) t → At v ds k.opened → (is_some (announced ds) ≡ true) × (learned e ds ≡ true) → At (after_turn v (again x)) (transmission e t (frame_with image m.numbers x) ∷ ds) k.opened
   turned_again x t facts s keeps =
       let opened = open_now k.opened (announced ds) (beacon_of m.numbers k) steady.announces keeps.0 in
-      let w = grant_within m rules i g at in
       subst (At (after_turn v (again x)) (transmission e t (frame_with image m.numbers x) ∷ ds)) (sym opened)
-      (again_sent image m.numbers e g k.gathered k.sent k.last v ds keeps.1 (subst (At v ds) opened s) t x facts w.1)
+      (again_sent image m.numbers e g k.gathered k.sent k.last v ds keeps.1 (subst (At v ds) opened s) t x facts
+      (repeats_are_for_retransmission m rules i g at k.sent))
 
   sent_by : (turn : Turn C) (t : ℕ) (buffer : List ℕ) (r : Result ℕ Fault) (memory : List ℕ) (count : ℕ) → Turned turn t → ((l : ℕ) → r ≡ Ok l → l ≡ length (frame_of image turn)) → memory ≡ left_by r (frame_of image turn) buffer → KeepsRules count ds (deed (calls.sends e t buffer r memory)) → At v ds k.opened → At (cond (is_ok r) (after_turn v turn) v) (deed (calls.sends e t buffer r memory) ∷ ds) k.opened
   sent_by turn t buffer (Err f) memory count facts size p keeps s = idle image m.numbers e g k.opened k.gathered k.sent k.last v ds s
@@ -412,7 +419,7 @@ module _ {C : Type 0} (e : ℕ) (v : Device C) (ds : List (Deed C)) (o : Outside
       no_sent = o.no_sent;
       no_accepted = o.no_accepted;
       no_told = o.no_told;
-      no_since = o.no_since;
+      none_under_way = o.none_under_way;
       no_waits = o.no_waits;
       no_sendings = o.no_sendings;
     }
@@ -424,7 +431,7 @@ module _ {C : Type 0} (e : ℕ) (v : Device C) (ds : List (Deed C)) (o : Outside
       no_sent = o.no_sent;
       no_accepted = o.no_accepted;
       no_told = o.no_told;
-      no_since = o.no_since;
+      none_under_way = o.none_under_way;
       no_waits = o.no_waits;
       no_sendings = o.no_sendings;
     }

@@ -1,5 +1,5 @@
 -- The run of the example, by computation.
-use Rattle.std.proofs.Common.{◌≡◌, ℕ, zero, suc, ◌<◌, ◌≤◌, true, false, cond, eqb, length, Ok, Err, refl, inl, arith}
+use Rattle.std.proofs.Common.{◌≡◌, ℕ, zero, suc, ◌<◌, ◌≤◌, true, false, cond, eqb, length, unwrap_or, Some, None, Ok, Err, refl, inl, arith}
 use Rattle.frame.specs.declared.faults.Refusal.TheVariants as refusal
 use Rattle.frame.specs.Refusals.{fault}
 use Rattle.plan.specs.Rules.{Rules}
@@ -25,7 +25,7 @@ pub different : Different devices
 different d e p q h = omega arith
 
 -- both devices had their news
-both : (d : ℕ) → d < 2 → cond (eqb 1 d) true (cond (eqb 0 d) true false) ≡ true
+both : (d : ℕ) → d < 2 → unwrap_or (cond (eqb 1 d) (Some true) None) (unwrap_or (cond (eqb 0 d) (Some true) None) false) ≡ true
 both zero p = refl
 both (suc zero) p = refl
 both (suc (suc d)) p = absurd (omega arith)

@@ -7,7 +7,7 @@ use Rattle.plan.specs.Rules.{PlanMeaning, Rules, grant_at}
 use Rattle.plan.specs.Answers.{number_with}
 use Rattle.plan.proofs.Lawful.{grant_within, names_addressed, addresses_differ}
 use Rattle.repeats.specs.Bitmaps.{acknowledged, marked_with}
-use Rattle.repeats.specs.Starts.{repeat_start, sender_at}
+use Rattle.repeats.specs.Starts.{repeat_start, for_retransmission, sender_at}
 use Rattle.repeats.specs.Laws.{BitsAlike}
 use Rattle.repeats.proofs.Serving.{names_sender}
 use Rattle.repeats.proofs.Starting.{started}
@@ -21,7 +21,9 @@ use Rattle.network.specs.Deeds.{Deed, hand_up}
 use Rattle.network.specs.History as history
 use Rattle.network.specs.History.{Among, Sending, superframes, learned, sendings}
 use Rattle.network.specs.Guarantee.{grant_of}
-use Rattle.network.proofs.Books.{Line, Just, AllJust, telling_of, arrivals_of, listed, since, in_flight, Agrees}
+use Rattle.network.proofs.Books.{Line, Just, AllJust, AllBefore, Landing, landing_of, telling_of, arrivals_of, listed, since, in_flight, Agrees}
+use Rattle.network.proofs.FramesAreOwnOrRepeats.{own_is_no_repeat, repeats_are_for_retransmission}
+use Rattle.network.proofs.RepeatsAreOfTheLastTold.{last_told}
 use Rattle.network.proofs.Sound.{frame_with, current, flown, OwnFrame, ToRepeat, AgainFrame, Sound, Steady}
 
 -- no arrival is in flight where the bit is zero
@@ -30,7 +32,7 @@ no_flight b n None e = refl
 no_flight b n (Some x) e = cond-false b _ _ e
 
 -- one arrival is where the bit is one
-arriving : {C : Type 0} (b : Bool) (n : ℕ) (o : Option C) (x : C) (rest : List (history.Arrival C)) → o ≡ Some x → b ≡ true → in_flight b n o ++ rest ≡ record { number = suc n; own = true; cargo = x } ∷ rest
+arriving : {C : Type 0} (b : Bool) (n : ℕ) (o : Option C) (x : C) (rest : List (Landing C)) → o ≡ Some x → b ≡ true → in_flight b n o ++ rest ≡ record { number = suc n; own = true; cargo = x } ∷ rest
 arriving b n o x rest e q = rw (e, q) refl
 
 -- the frame under way is counted beside those whose fates were told
@@ -64,33 +66,33 @@ module _ {C : Type 0} (image : C → List ℕ) (m : PlanMeaning) (rules : Rules 
           tell false q = refl
           tell true q = let late = s.late is_open aware q in absurd (omega arith)
 
-      own_agrees : Agrees m.numbers.retransmission (Some g.simple) e (hand_up t xs g.simple x ∷ ds) v.waiting v.sent (flown opened (learned e ds) (superframes ds)) (acknowledged m.numbers (current opened (learned e ds) (marked_with m.numbers gathered g) sent) g.first) s.book
+      own_agrees : Agrees (for_retransmission m.numbers) (Some g.simple) e (hand_up t xs g.simple x ∷ ds) v.waiting v.sent (flown opened (learned e ds) (superframes ds)) (acknowledged m.numbers (current opened (learned e ds) (marked_with m.numbers gathered g) sent) g.first) s.book
       own_agrees =
           let a = s.agrees in
-          let r = m.numbers.retransmission in
-          let w = grant_within m rules i g at in
-          let high : m.numbers.retransmission < t = omega arith in
+          let r = for_retransmission m.numbers in
+          let high : r t ≡ false = ap r own ∙ own_is_no_repeat m rules i g at in
           let bit : acknowledged m.numbers (current opened (learned e ds) gathered sent) g.first ≡ false = rw (is_open, aware) old_bit in
           let set : acknowledged m.numbers (current opened (learned e ds) (marked_with m.numbers gathered g) sent) g.first ≡ true = rw (is_open, aware) marked in
-          let number : length (history.own_sendings r e ds) ≡ suc (length s.book) = ap length a.sends ∙ sends_count _ v.sent x s.book flying in
-          let before : history.arrivals r (Some g.simple) e ds ≡ arrivals_of s.book = a.arrives ∙ ap (λ (l : List (history.Arrival C)). l ++ arrivals_of s.book) (no_flight _ (length s.book) v.sent bit) in
+          let number : length (history.own_sendings e r ds) ≡ suc (length s.book) = ap length a.sends ∙ sends_count _ v.sent x s.book flying in
+          let before : map landing_of (history.arrivals e r (Some g.simple) ds) ≡ arrivals_of s.book =
+          a.arrives ∙ ap (λ (l : List (Landing C)). l ++ arrivals_of s.book) (no_flight _ (length s.book) v.sent bit) in
           record {
             accepts = a.accepts;
             tells = a.tells;
             sends = a.sends;
             arrives =
-                cond-true _ _ _ (eq-eqb g.simple g.simple refl) ∙ cond-false _ _ _ (lt-leb _ _ high)
-                ∙ (λ p. record { number = number p; own = true; cargo = x } ∷ before p) ∙ sym (arriving _ (length s.book) v.sent x (arrivals_of s.book) flying set);
+                rw (eq-eqb g.simple g.simple refl, high) (λ p. record { number = number p; own = true; cargo = x } ∷ before p)
+                ∙ sym (arriving _ (length s.book) v.sent x (arrivals_of s.book) flying set);
             just = a.just;
-            sent_since = a.sent_since;
+            before = a.before;
+            under_way = a.under_way;
             waits = a.waits;
           }
 
       own_heard : Sound image m.numbers e g opened (gathering m.numbers t gathered g) sent t v (hand_up t xs g.simple x ∷ ds)
       own_heard =
-          let w = grant_within m rules i g at in
-          let high : m.numbers.retransmission < t = omega arith in
-          rw (lt-leb _ _ high) (record {
+          let high : for_retransmission m.numbers t ≡ false = ap (for_retransmission m.numbers) own ∙ own_is_no_repeat m rules i g at in
+          rw high (record {
             address = s.address;
             configured = s.configured;
             bound = s.bound;
@@ -114,6 +116,9 @@ module _ {C : Type 0} (image : C → List ℕ) (m : PlanMeaning) (rules : Rules 
           let u = started m.numbers sent g t q.starts in
           (omega arith, omega arith)
 
+      low : for_retransmission m.numbers t ≡ true
+      low = repeats_are_for_retransmission m rules i g at sent t q.starts
+
       bit_zero : (b : Bool) → acknowledged m.numbers gathered g.first ≡ b → b ≡ false
       bit_zero false e = refl
       bit_zero true e = let late = s.late is_open aware e in let w = in_range in absurd (omega arith)
@@ -127,6 +132,13 @@ module _ {C : Type 0} (image : C → List ℕ) (m : PlanMeaning) (rules : Rules 
 
       just_before : AllJust (q.top ∷ q.rest)
       just_before = subst (λ (l : List (Line C)). AllJust l) q.book_is s.agrees.just
+
+      -- the repeat is of the acceptance whose fate was told last
+      repeated_now : history.repeated e (for_retransmission m.numbers) ds ≡ length s.book
+      repeated_now = last_told (for_retransmission m.numbers) e opened (learned e ds) is_open aware ds v.waiting v.sent _ _ s.book s.agrees
+
+      before_again : AllBefore (superframes ds) (heard_again ∷ q.rest)
+      before_again = subst (λ (l : List (Line C)). AllBefore (superframes ds) l) q.book_is s.agrees.before
 
       just_again : Just heard_again
       just_again = let j = just_before.0 in record {
@@ -142,30 +154,31 @@ module _ {C : Type 0} (image : C → List ℕ) (m : PlanMeaning) (rules : Rules 
           ap (λ (l : List (Line C)). arrivals_of l) q.book_is
           ∙ cond-false _ _ _ (just_before.0.repeated q.fate) ∙ cond-false _ _ _ (not_yet q.top.again refl)
 
-      again_agrees : Agrees m.numbers.retransmission (Some g.simple) e (hand_up t xs g.simple x ∷ ds) v.waiting v.sent (flown opened (learned e ds) (superframes ds)) (acknowledged m.numbers (current opened (learned e ds) gathered sent) g.first) (heard_again ∷ q.rest)
+      again_agrees : Agrees (for_retransmission m.numbers) (Some g.simple) e (hand_up t xs g.simple x ∷ ds) v.waiting v.sent (flown opened (learned e ds) (superframes ds)) (acknowledged m.numbers (current opened (learned e ds) gathered sent) g.first) (heard_again ∷ q.rest)
       again_agrees =
           let a = s.agrees in
-          let r = m.numbers.retransmission in
+          let r = for_retransmission m.numbers in
           let bit : acknowledged m.numbers (current opened (learned e ds) gathered sent) g.first ≡ false = rw (is_open, aware) (bit_zero _ refl) in
-          let number : length (history.told e ds) ≡ suc (length q.rest) = ap length a.tells ∙ length-map s.book telling_of ∙ ap length q.book_is in
-          let before : history.arrivals r (Some g.simple) e ds ≡ arrivals_of q.rest = a.arrives ∙ ap (λ (l : List (history.Arrival C)). l ++ arrivals_of s.book) (no_flight _ (length s.book) v.sent bit) ∙ arrivals_before in
+          let number : history.repeated e r ds ≡ suc (length q.rest) = repeated_now ∙ ap length q.book_is in
+          let before : map landing_of (history.arrivals e r (Some g.simple) ds) ≡ arrivals_of q.rest =
+          a.arrives ∙ ap (λ (l : List (Landing C)). l ++ arrivals_of s.book) (no_flight _ (length s.book) v.sent bit) ∙ arrivals_before in
           record {
             accepts = a.accepts ∙ ap (λ (l : List (Line C)). listed v.waiting ++ (listed v.sent ++ map (λ y. y.cargo) l)) q.book_is;
             tells = a.tells ∙ ap (λ (l : List (Line C)). map telling_of l) q.book_is;
             sends = a.sends ∙ ap (λ (l : List (Line C)). since (flown opened (learned e ds) (superframes ds)) v.sent ++ map (λ y. y.sent) l) q.book_is;
             arrives =
-                cond-true _ _ _ (eq-eqb g.simple g.simple refl) ∙ cond-true _ _ _ (le-leb _ _ in_range.0)
-                ∙ (λ p. record { number = number p; own = false; cargo = sym q.cargo p } ∷ before p)
+                rw (eq-eqb g.simple g.simple refl, low) (λ p. record { number = number p; own = false; cargo = sym q.cargo p } ∷ before p)
                 ∙ sym (cond-false _ _ _ (just_before.0.repeated q.fate))
-                ∙ sym (ap (λ (l : List (history.Arrival C)). l ++ arrivals_of (heard_again ∷ q.rest)) (no_flight _ (suc (length q.rest)) v.sent bit));
+                ∙ sym (ap (λ (l : List (Landing C)). l ++ arrivals_of (heard_again ∷ q.rest)) (no_flight _ (suc (length q.rest)) v.sent bit));
             just = (just_again, just_before.1);
-            sent_since = a.sent_since;
+            before = before_again;
+            under_way = a.under_way;
             waits = a.waits;
           }
 
       again_heard : Sound image m.numbers e g opened (gathering m.numbers t gathered g) sent t v (hand_up t xs g.simple x ∷ ds)
       again_heard =
-          rw (le-leb _ _ in_range.0) (record {
+          rw low (record {
             address = s.address;
             configured = s.configured;
             bound = s.bound;
@@ -239,9 +252,12 @@ module _ {C : Type 0} (image : C → List ℕ) (m : PlanMeaning) (rules : Rules 
         accepts = s.agrees.accepts;
         tells = s.agrees.tells;
         sends = s.agrees.sends;
-        arrives = cond-false _ _ _ (ne_eqb _ _ other) ∙ subst (λ (b : Bool). history.arrivals m.numbers.retransmission (Some h.simple) e ds ≡ in_flight b (length s.book) v.sent ++ arrivals_of s.book) (sym same_current) s.agrees.arrives;
+        arrives = rw (ne_eqb _ _ other)
+            (subst (λ (b : Bool). map landing_of (history.arrivals e (for_retransmission m.numbers) (Some h.simple) ds) ≡ in_flight b (length s.book) v.sent ++ arrivals_of s.book)
+            (sym same_current) s.agrees.arrives);
         just = s.agrees.just;
-        sent_since = s.agrees.sent_since;
+        before = s.agrees.before;
+        under_way = s.agrees.under_way;
         waits = s.agrees.waits;
       };
       unheard = λ o u. same_bit ∙ s.unheard o u;
@@ -254,11 +270,12 @@ module _ {C : Type 0} (image : C → List ℕ) (m : PlanMeaning) (rules : Rules 
         other : g.simple ≡ h.simple → ⊥
         other q = differ (addresses_differ m rules i j g h here there (inr q))
 
+        bits_of : (b : Bool) → acknowledged m.numbers (cond b k.gathered (marked_with m.numbers k.gathered g)) h.first ≡ acknowledged m.numbers k.gathered h.first
+        bits_of true = refl
+        bits_of false = marked_other i j g h k.gathered here there differ steady.size
+
         same_bit : acknowledged m.numbers (gathering m.numbers t k.gathered g) h.first ≡ acknowledged m.numbers k.gathered h.first
-        same_bit = elim (cases_lt m.numbers.retransmission t) [
-          | inl above ↦ rw (lt-leb _ _ above) (marked_other i j g h k.gathered here there differ steady.size)
-          | inr below ↦ rw (le-leb _ _ below) refl
-        ]
+        same_bit = bits_of (for_retransmission m.numbers t)
 
         current_is : (b : Bool) → acknowledged m.numbers (cond b (gathering m.numbers t k.gathered g) k.sent) h.first ≡ acknowledged m.numbers (cond b k.gathered k.sent) h.first
         current_is true = same_bit

@@ -6,6 +6,7 @@ use Rattle.frame.specs.declared.faults.Fault.{Fault}
 use Rattle.plan.specs.declared.grant.Grant.{Grant}
 use Rattle.plan.specs.Rules.{PlanMeaning, Rules, grant_at}
 use Rattle.plan.proofs.Lawful.{addresses_differ, names_addressed}
+use Rattle.repeats.specs.Starts.{for_retransmission}
 use Rattle.cargo.specs.Images.{Apart}
 use Rattle.cargo.specs.Passing.{Receives}
 use Rattle.coordinator.specs.declared.state.Heard.{Heard}
@@ -25,7 +26,7 @@ use Rattle.network.proofs.Accounts.{Carried, from_book, from_outside}
 use Rattle.network.proofs.Addresses.{address_of}
 use Rattle.network.proofs.Books.{count}
 use Rattle.network.proofs.Carrying.{Carries, begun_carries, next_carries}
-use Rattle.network.proofs.Crediting.{Credits, Grounds, begun_credits, next_credits, paired}
+use Rattle.network.proofs.Crediting.{Credits, Grounds, begun_credits, next_credits}
 use Rattle.network.proofs.Devices as DevicesKeep
 use Rattle.network.proofs.Devices.{open_now}
 use Rattle.network.proofs.Hearing.{grant_found, heard_of, heard_elsewhere}
@@ -96,7 +97,7 @@ module _ {C : Type 0} (image : C → List ℕ) (short : (x : C) → length (imag
       no_sent = s.no_sent;
       no_accepted = s.no_accepted;
       no_told = s.no_told;
-      no_since = s.no_since;
+      none_under_way = s.none_under_way;
       no_waits = s.no_waits;
       no_sendings = s.no_sendings;
     }
@@ -300,26 +301,15 @@ module _ {C : Type 0} (image : C → List ℕ) (short : (x : C) → length (imag
         (air.0, air.1, its, air.2, air.3, air.4)
 
     grounded : (c : Call C) → Answers image m (hall image m devices cs) c → KeepsRules devices.count ds (deed c) → (e : ℕ) → e < devices.count → Grounds image m devices e (v e) ds (deed c)
-    grounded (set_mode mode r) is keeps e there = tt
     grounded (opens buffer (Ok o) memory) is keeps e there = tt
-    grounded (opens buffer (Err f) memory) is keeps e there = tt
     grounded (hears j t xs (Ok x)) is keeps e there = hears_grounded j t xs x is keeps e there
-    grounded (hears j t xs (Err f)) is keeps e there = tt
     grounded (hears_management j xs buffer (Ok l) memory) is keeps e there = tt
-    grounded (hears_management j xs buffer (Err f) memory) is keeps e there = tt
     grounded (closes j (Ok u)) is keeps e there = tt
-    grounded (closes j (Err f)) is keeps e there = tt
     grounded (takes_beacon d xs (Ok φ)) is keeps e there = tt
-    grounded (takes_beacon d xs (Err f)) is keeps e there = tt
-    grounded (misses_beacon d r) is keeps e there = tt
     grounded (is_offered d x (Ok u)) is keeps e there = tt
-    grounded (is_offered d x (Err f)) is keeps e there = tt
-    grounded (sends d t buffer (Ok zero) memory) is keeps e there = tt
-    grounded (sends d t buffer (Ok (suc l)) memory) is keeps e there = sends_grounded d t buffer l memory is.0 e there
-    grounded (sends d t buffer (Err f) memory) is keeps e there = tt
-    grounded (writes_management d buffer r memory) is keeps e there = tt
     grounded (takes_management d xs (Ok u)) is keeps e there = tt
-    grounded (takes_management d xs (Err f)) is keeps e there = tt
+    grounded (sends d t buffer (Ok (suc l)) memory) is keeps e there = sends_grounded d t buffer l memory is.0 e there
+    grounded c is keeps e there = tt
 
     next : (c : Call C) → Answers image m (hall image m devices cs) c → Present devices.count c → KeepsRules devices.count ds (deed c) → Holding (c ∷ cs)
     next (set_mode mode r) is there keeps = record {
@@ -412,7 +402,7 @@ module _ {C : Type 0} (image : C → List ℕ) (short : (x : C) → length (imag
   carried cs run e there =
       let a = carrying cs run e there in
       let b = crediting cs run e there in
-      record { own = a.own; again = a.again; of_its_frame = (paired m.numbers.retransmission (simple_of m (devices.address e)) e (deeds cs), b.of_its_frame); single = b.single; own_first = b.own_first; timely = b.timely; learns = learning cs run e }
+      record { own = a.own; again = a.again; of_its_frame = b.of_its_frame; single = b.single; own_first = b.own_first; timely = b.timely; learns = learning cs run e }
 
   each_by : (cs : List (Call C)) (d : ℕ) → Carried image m devices (deeds cs) d → (o : Option Grant) → grant_of m (devices.address d) ≡ o → (k : Inner) (v : Device C) → (k.opened ≡ true → 1 ≤ superframes (deeds cs)) → Standing image m.numbers d o k v (deeds cs) → DeviceGuaranteed m devices (deeds cs) d image
   each_by cs d c None found k v counted s = from_outside image m devices (deeds cs) d c v (ap (λ (o : Option Grant). option_map (λ (x : Grant). x.simple) o) found) s
@@ -426,10 +416,10 @@ module _ {C : Type 0} (image : C → List ℕ) (short : (x : C) → length (imag
 
   tells_by : (d : ℕ) (es : List (Deed C)) (o : Option Grant) (k : Inner) (v : Device C) → Standing image m.numbers d o k v es → DeviceTellsWhatItHolds m devices es d v
   tells_by d es None k v s = (
-    s.no_waits m.numbers.retransmission ∙ sym (ap (λ (o : Option C). cond (is_some o) 1 0) s.no_waiting),
-    s.no_since m.numbers.retransmission ∙ sym (ap (λ (o : Option C). cond (is_some o) 1 0) s.no_sent),
+    s.no_waits (for_retransmission m.numbers) ∙ sym (ap (λ (o : Option C). cond (is_some o) 1 0) s.no_waiting),
+    s.none_under_way (for_retransmission m.numbers) ∙ sym (ap (λ (o : Option C). cond (is_some o) 1 0) s.no_sent),
   )
-  tells_by d es (Some g) k v s = (s.agrees.waits ∙ as_held v.waiting, s.agrees.sent_since ∙ as_held v.sent)
+  tells_by d es (Some g) k v s = (s.agrees.waits ∙ as_held v.waiting, s.agrees.under_way ∙ as_held v.sent)
 
   pub guaranteed : (cs : List (Call C)) → Run image m devices cs → Guaranteed m devices (deeds cs) image (hall image m devices cs).devices
   guaranteed cs run =

@@ -1,8 +1,9 @@
 -- The news that a device had: once in a superframe, and each fate is told with news.
 use Rattle.std.proofs.Common.{◌≡◌, ℕ, suc, ◌≤◌, Bool, true, false, List, [], ◌∷◌, Some, None, Option, sym, refl, ap, ◌∙◌, subst, inl, inr, ⊎_elim, arith}
 use Rattle.std.proofs.lemmas.Bool.{both_ways, cases_eq, eq-eqb, ne_eqb}
+use Rattle.std.specs.List.{cons_option}
 use Rattle.device.specs.declared.state.Fate.{Fate}
-use Rattle.network.specs.Deeds.{Deed, opening, closing, hand_up, reply, news, acceptance, transmission, taking, nothing}
+use Rattle.network.specs.Deeds.{Deed, opening, news}
 use Rattle.network.specs.History.{Among, Telling, Learning, telling, announces_online, superframes, learned, told, learnings}
 use Rattle.network.specs.Runs.{KeepsRules}
 use Rattle.network.proofs.Sound.{flown}
@@ -13,7 +14,7 @@ learning_of y = record { superframe = y.superframe; online = y.online }
 
 -- a fate that is told with news is told in their superframe
 told_with : (k : ℕ) (online : Bool) (φ : Option Fate) (ts : List Telling) (ls : List Learning) → ((y : Telling) → Among y ts → Among (learning_of y) ls)
-    → (y : Telling) → Among y (telling k online φ ts) → Among (learning_of y) (record { superframe = k; online = online } ∷ ls)
+    → (y : Telling) → Among y (cons_option (telling k online φ) ts) → Among (learning_of y) (record { superframe = k; online = online } ∷ ls)
 told_with k online None ts ls before y h = inr (before y h)
 told_with k online (Some φ) ts ls before y (inl new) = inl (ap learning_of new)
 told_with k online (Some φ) ts ls before y (inr old) = inr (before y old)
@@ -61,15 +62,9 @@ module _ {C : Type 0} (e : ℕ) where
   -- every deed keeps it
   pub next_learns : (count : ℕ) (ds : List (Deed C)) (deed : Deed C) → KeepsRules count ds deed → Learns ds → Learns (deed ∷ ds)
   next_learns count ds (opening xs) keeps l = opening_learns ds l xs
-  next_learns count ds closing keeps l = record { bound = l.bound; now = l.now; one = l.one; tellings = l.tellings }
-  next_learns count ds (hand_up t xs simple x) keeps l = record { bound = l.bound; now = l.now; one = l.one; tellings = l.tellings }
-  next_learns count ds (reply xs) keeps l = record { bound = l.bound; now = l.now; one = l.one; tellings = l.tellings }
   next_learns count ds (news d None φ) keeps l = news_learns ds l d None φ keeps.1
   next_learns count ds (news d (Some b) φ) keeps l = news_learns ds l d (Some b) φ keeps.1
-  next_learns count ds (acceptance d x) keeps l = record { bound = l.bound; now = l.now; one = l.one; tellings = l.tellings }
-  next_learns count ds (transmission d t xs) keeps l = record { bound = l.bound; now = l.now; one = l.one; tellings = l.tellings }
-  next_learns count ds (taking d xs) keeps l = record { bound = l.bound; now = l.now; one = l.one; tellings = l.tellings }
-  next_learns count ds nothing keeps l = record { bound = l.bound; now = l.now; one = l.one; tellings = l.tellings }
+  next_learns count ds d keeps l = record { bound = l.bound; now = l.now; one = l.one; tellings = l.tellings }
 
   -- what was sent and has no fate yet was sent so late that no news came after it
   pub no_later : (ds : List (Deed C)) → Learns ds → (opened : Bool) → (opened ≡ true → 1 ≤ superframes ds) → (x : Learning) → Among x (learnings e ds) → x.superframe ≡ suc (flown opened (learned e ds) (superframes ds)) → ⊥

@@ -3,6 +3,8 @@ pub mod Sound
 pub mod Accounts
 pub mod Steadily
 pub mod Others
+pub mod FramesAreOwnOrRepeats
+pub mod RepeatsAreOfTheLastTold
 pub mod Devices
 pub mod News
 pub mod Hearing

@@ -34,7 +34,7 @@ use Rattle.device.specs.Steps as device
 use Rattle.network.specs.Calls.{misses_beacon, takes_beacon}
 use Rattle.network.specs.Deeds.{Deed, news, deed}
 use Rattle.network.specs.History.{Among, Sending, Telling, superframes, announced, learned, sendings, announces_online}
-use Rattle.network.proofs.Books.{Line, Just, listed, in_flight, telling_of, arrivals_of}
+use Rattle.network.proofs.Books.{Line, Just, listed, in_flight, telling_of, arrivals_of, count}
 use Rattle.network.specs.Runs.{KeepsRules}
 use Rattle.network.proofs.Sound.{Sound, Outside, Steady}
 use Rattle.network.proofs.Devices.{idle, open_now, outside_idle}
@@ -92,7 +92,8 @@ module _ {C : Type 0} (image : C → List ℕ) (n : Numbers) (e : ℕ) (g : Gran
         sends = (rw q at s.agrees.sends);
         arrives = (rw q at s.agrees.arrives);
         just = s.agrees.just;
-        sent_since = rw itself refl;
+        before = s.agrees.before;
+        under_way = rw itself (s.agrees.under_way ∙ ap count q);
         waits = s.agrees.waits;
       };
       unheard = rw itself (λ o l. absurd cc);
@@ -115,7 +116,8 @@ module _ {C : Type 0} (image : C → List ℕ) (n : Numbers) (e : ℕ) (g : Gran
         sends = (rw (unaware, q) at s.agrees.sends);
         arrives = (rw (unaware, q) at s.agrees.arrives) ∙ landed (acknowledged n sent g.first) (line (announces_online b) φ x) s.book refl refl;
         just = (just, s.agrees.just);
-        sent_since = rw itself refl;
+        before = (omega arith, s.agrees.before);
+        under_way = rw itself refl;
         waits = s.agrees.waits;
       };
       unheard = rw itself (λ o l. absurd cc);
@@ -345,7 +347,7 @@ module _ {C : Type 0} (e : ℕ) (v : Device C) (ds : List (Deed C)) (o : Outside
         no_sent = refl;
         no_accepted = o.no_accepted;
         no_told = rw itself o.no_told;
-        no_since = λ r. rw itself refl;
+        none_under_way = λ again. rw itself (o.none_under_way again);
         no_waits = o.no_waits;
         no_sendings = o.no_sendings;
       }

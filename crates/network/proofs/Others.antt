@@ -1,5 +1,5 @@
 -- What happens elsewhere keeps how a device stands.
-use Rattle.std.proofs.Common.{◌≡◌, ℕ, zero, suc, ◌-◌, ◌≤◌, Bool, true, false, cond, eqb, List, [], ◌∷◌, take, is_ok, Some, None, Ok, Err, Option, Result, sym, refl, ap, ◌∙◌, subst, inl, inr, arith}
+use Rattle.std.proofs.Common.{◌≡◌, ℕ, zero, suc, ◌-◌, ◌≤◌, Bool, true, false, cond, eqb, List, [], ◌∷◌, map, take, is_ok, Some, None, Ok, Err, Option, Result, sym, refl, ap, ◌∙◌, subst, inl, inr, arith}
 use Rattle.std.proofs.lemmas.Bool.{and_parts, and_right, eqb-false}
 use Rattle.frame.specs.declared.faults.Fault.{Fault}
 use Rattle.frame.specs.declared.frames.Wish.{Wish}
@@ -19,8 +19,8 @@ use Rattle.device.specs.declared.state.Fate.{Fate}
 use Rattle.device.specs.Steps as device
 use Rattle.network.specs.Calls.{set_mode, opens, hears_management, closes, takes_beacon, misses_beacon, is_offered, sends, writes_management, takes_management}
 use Rattle.network.specs.Deeds.{Deed, opening, closing, reply, news, acceptance, transmission, taking, nothing, deed}
-use Rattle.network.specs.History.{Among, Sending, superframes, learned, sendings, accepted, told, own_sendings, arrivals, sent_since, waits}
-use Rattle.network.proofs.Books.{Line, Agrees}
+use Rattle.network.specs.History.{Among, Sending, superframes, learned, sendings, accepted, told, own_sendings, arrivals, under_way, waits}
+use Rattle.network.proofs.Books.{Line, AllBefore, landing_of, Agrees}
 use Rattle.network.proofs.Sound.{Sound, Outside, Steady, Standing}
 
 -- two histories tell the same of the device at place e
@@ -28,25 +28,41 @@ abbrev pub Same : {C : Type 0} → ℕ → List (Deed C) → List (Deed C) → T
 Same e ds before = record {
   accepts : accepted e ds ≡ accepted e before;
   tells : told e ds ≡ told e before;
-  sends : (r : ℕ) → own_sendings r e ds ≡ own_sendings r e before;
-  arrives : (r simple : ℕ) → arrivals r (Some simple) e ds ≡ arrivals r (Some simple) e before;
-  since : (r : ℕ) → sent_since r e ds ≡ sent_since r e before;
-  waiting : (r : ℕ) → waits r e ds ≡ waits r e before;
+  sends : (again : ℕ → Bool) → own_sendings e again ds ≡ own_sendings e again before;
+  arrives : (again : ℕ → Bool) (simple : ℕ) → arrivals e again (Some simple) ds ≡ arrivals e again (Some simple) before;
+  flies : (again : ℕ → Bool) → under_way e again ds ≡ under_way e again before;
+  waiting : (again : ℕ → Bool) → waits e again ds ≡ waits e again before;
   older : (x : Sending) → Among x (sendings ds) → x.device ≡ e → Among x (sendings before);
 }
 
 pub unmoved : {C : Type 0} (e : ℕ) (ds : List (Deed C)) → Same e ds ds
-unmoved e ds = record { accepts = refl; tells = refl; sends = λ r. refl; arrives = λ r simple. refl; since = λ r. refl; waiting = λ r. refl; older = λ x among here. among }
+unmoved e ds = record {
+  accepts = refl;
+  tells = refl;
+  sends = λ again. refl;
+  arrives = λ again simple. refl;
+  flies = λ again. refl;
+  waiting = λ again. refl;
+  older = λ x among here. among;
+}
 
-agrees_still : {C : Type 0} (r simple e : ℕ) (ds before : List (Deed C)) (waiting sent : Option C) (k : ℕ) (bit : Bool) (book : List (Line C)) → Same e ds before → Agrees r (Some simple) e before waiting sent k bit book → Agrees r (Some simple) e ds waiting sent k bit book
-agrees_still r simple e ds before waiting sent k bit book same a = record {
+-- lines that were sent before a superframe were sent before a later one
+later : {C : Type 0} (j k : ℕ) (book : List (Line C)) → j ≤ k → AllBefore j book → AllBefore k book
+later j k [] le before = tt
+later j k (y ∷ ys) le before = let first = before.0 in (omega arith, later j k ys le before.1)
+
+agrees_still : {C : Type 0} (again : ℕ → Bool) (simple e : ℕ) (ds before : List (Deed C)) (waiting sent : Option C) (k : ℕ)
+    (bit : Bool) (book : List (Line C)) → Same e ds before → superframes before ≤ superframes ds
+    → Agrees again (Some simple) e before waiting sent k bit book → Agrees again (Some simple) e ds waiting sent k bit book
+agrees_still again simple e ds before waiting sent k bit book same grows a = record {
   accepts = same.accepts ∙ a.accepts;
   tells = same.tells ∙ a.tells;
-  sends = same.sends r ∙ a.sends;
-  arrives = same.arrives r simple ∙ a.arrives;
+  sends = same.sends again ∙ a.sends;
+  arrives = ap (map landing_of) (same.arrives again simple) ∙ a.arrives;
   just = a.just;
-  sent_since = same.since r ∙ a.sent_since;
-  waits = same.waiting r ∙ a.waits;
+  before = later _ _ book grows a.before;
+  under_way = same.flies again ∙ a.under_way;
+  waits = same.waiting again ∙ a.waits;
 }
 
 outside_still : {C : Type 0} (e : ℕ) (v : Device C) (ds before : List (Deed C)) → Same e ds before → Outside e v before → Outside e v ds
@@ -56,8 +72,8 @@ outside_still e v ds before same s = record {
   no_sent = s.no_sent;
   no_accepted = same.accepts ∙ s.no_accepted;
   no_told = same.tells ∙ s.no_told;
-  no_since = λ r. same.since r ∙ s.no_since r;
-  no_waits = λ r. same.waiting r ∙ s.no_waits r;
+  none_under_way = λ again. same.flies again ∙ s.none_under_way again;
+  no_waits = λ again. same.waiting again ∙ s.no_waits again;
   no_sendings = λ x among here. s.no_sendings x (same.older x among here) here;
 }
 
@@ -77,7 +93,7 @@ module _ {C : Type 0} (image : C → List ℕ) (n : Numbers) (e : ℕ) where
     configured = s.configured;
     bound = s.bound;
     book = s.book;
-    agrees = rw (learns, counts) (agrees_still _ _ e ds before _ _ _ _ _ same s.agrees);
+    agrees = rw (learns, counts) (agrees_still _ _ e ds before _ _ _ _ _ same (omega (arith, counts)) s.agrees);
     unheard = rw learns s.unheard;
     late = rw learns s.late;
     quiet = rw learns s.quiet;
@@ -112,7 +128,7 @@ module _ {C : Type 0} (image : C → List ℕ) (n : Numbers) (e : ℕ) where
         configured = s.configured;
         bound = s.bound;
         book = s.book;
-        agrees = rw down (agrees_still _ _ e (opening xs ∷ ds) ds _ _ _ _ _ (unmoved e ds) s.agrees);
+        agrees = rw down (agrees_still _ _ e (opening xs ∷ ds) ds _ _ _ _ _ (unmoved e ds) (omega arith) s.agrees);
         unheard = λ _ _. unheard;
         late = λ _ aware. absurd cc;
         quiet = s.quiet;
@@ -131,7 +147,7 @@ module _ {C : Type 0} (image : C → List ℕ) (n : Numbers) (e : ℕ) where
         configured = s.configured;
         bound = s.bound;
         book = s.book;
-        agrees = agrees_still _ _ e (closing ∷ ds) ds _ _ _ _ _ (unmoved e ds) (rw aware at s.agrees);
+        agrees = agrees_still _ _ e (closing ∷ ds) ds _ _ _ _ _ (unmoved e ds) (omega arith) (rw aware at s.agrees);
         unheard = λ is. absurd cc;
         late = λ is. absurd cc;
         quiet = rw aware at s.quiet;
@@ -150,8 +166,8 @@ module _ {C : Type 0} (image : C → List ℕ) (m : PlanMeaning) (e : ℕ) where
     no_sent = refl;
     no_accepted = refl;
     no_told = refl;
-    no_since = λ r. refl;
-    no_waits = λ r. refl;
+    none_under_way = λ again. refl;
+    no_waits = λ again. refl;
     no_sendings = λ x among here. among;
   }
 
@@ -163,7 +179,7 @@ module _ {C : Type 0} (image : C → List ℕ) (m : PlanMeaning) (e : ℕ) where
     configured = λ c is. absurd cc;
     bound = λ _. refl;
     book = [];
-    agrees = record { accepts = refl; tells = refl; sends = refl; arrives = refl; just = tt; sent_since = refl; waits = refl };
+    agrees = record { accepts = refl; tells = refl; sends = refl; arrives = refl; just = tt; before = tt; under_way = refl; waits = refl };
     unheard = λ is. absurd cc;
     late = λ is. absurd cc;
     quiet = λ _. nothing_acknowledged m.numbers g.first;
@@ -211,10 +227,10 @@ module _ {C : Type 0} (image : C → List ℕ) (m : PlanMeaning) (e : ℕ) where
         let same : Same e (transmission d t xs ∷ ds) ds = record {
           accepts = refl;
           tells = refl;
-          sends = λ r. rw differ;
-          arrives = λ r simple. refl;
-          since = λ r. rw differ;
-          waiting = λ r. rw differ;
+          sends = λ again. rw differ;
+          arrives = λ again simple. refl;
+          flies = λ again. rw differ;
+          waiting = λ again. rw differ;
           older = λ x among here. elim among [ inl new ↦ absurd (eqb-false d e differ (sym (ap (λ (y : Sending). y.device) new) ∙ here)) | inr old ↦ old ];
         } in
         still image m.numbers e o k v (transmission d t xs ∷ ds) ds same refl refl s

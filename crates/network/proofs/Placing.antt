@@ -1,13 +1,14 @@
 -- Frames of one superframe, and the base timeslots that they take.
 use Rattle.std.proofs.Common.{◌≡◌, ℕ, ◌+◌, ◌<◌, ◌≤◌, true, ◌⊎◌, List, ◌∷◌, Some, None, Option, sym, refl, ap, ◌∙◌, subst, inl, inr, ⊎_elim, arith}
-use Rattle.std.proofs.lemmas.Bool.{cases_eq}
+use Rattle.std.proofs.lemmas.Bool.{both_ways, cases_eq}
 use Rattle.plan.specs.declared.grant.Grant.{Grant}
 use Rattle.plan.specs.declared.grant.Numbers.{Numbers}
 use Rattle.plan.specs.Rules.{PlanMeaning, Rules, grant_at}
 use Rattle.plan.proofs.Lawful.{grant_within, at_most_one_holder}
 use Rattle.repeats.specs.Starts.{repeat_start}
 use Rattle.repeats.specs.Laws.{BitsAlike}
-use Rattle.repeats.proofs.Serving.{within, apart}
+use Rattle.repeats.proofs.Serving.{apart}
+use Rattle.network.proofs.FramesAreOwnOrRepeats.{own_timeslot, repeated_timeslot}
 use Rattle.coordinator.specs.declared.state.Inner.{Inner}
 use Rattle.device.specs.declared.state.Device.{Device}
 use Rattle.network.specs.Deeds.{Deed, hand_up, transmission}
@@ -41,13 +42,9 @@ module _ (m : PlanMeaning) (rules : Rules m) (sent : List ℕ) (alike : BitsAlik
   one_grant i j g h here there s u t (inl a) (inl b) low high low2 high2 =
       at_most_one_holder m rules t i j g h here there (omega arith, omega arith) (omega arith, omega arith)
   one_grant i j g h here there s u t (inl a) (inr b) low high low2 high2 =
-      let v = grant_within m rules i g here in
-      let w = within m sent t j h there (u, b, low2, high2) in
-      absurd (omega arith)
+      absurd (both_ways _ (own_timeslot m rules i g here t (omega arith, omega arith)) (repeated_timeslot m rules j h there sent t (u, b, low2, high2)))
   one_grant i j g h here there s u t (inr a) (inl b) low high low2 high2 =
-      let v = grant_within m rules j h there in
-      let w = within m sent t i g here (s, a, low, high) in
-      absurd (omega arith)
+      absurd (both_ways _ (own_timeslot m rules j h there t (omega arith, omega arith)) (repeated_timeslot m rules i g here sent t (s, a, low, high)))
   one_grant i j g h here there s u t (inr a) (inr b) low high low2 high2 =
       apart m sent rules alike t i j g h here there (s, a, low, high) (u, b, low2, high2)
 

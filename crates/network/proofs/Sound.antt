@@ -8,7 +8,7 @@ use Rattle.plan.specs.declared.grant.Grant.{Grant}
 use Rattle.plan.specs.declared.grant.Numbers.{Numbers}
 use Rattle.plan.specs.Rules.{PlanMeaning, grant_at}
 use Rattle.repeats.specs.Bitmaps.{acknowledged, nothing_heard}
-use Rattle.repeats.specs.Starts.{repeat_start}
+use Rattle.repeats.specs.Starts.{repeat_start, for_retransmission}
 use Rattle.repeats.specs.Laws.{BitsAlike}
 use Rattle.coordinator.specs.declared.state.Inner.{Inner}
 use Rattle.coordinator.specs.Beacons.{configuration_for}
@@ -17,7 +17,7 @@ use Rattle.device.specs.declared.state.Device.{Device}
 use Rattle.device.specs.declared.state.Fate.TheVariants as fate
 use Rattle.device.specs.declared.state.Repeat.{Repeat}
 use Rattle.network.specs.Deeds.{Deed}
-use Rattle.network.specs.History.{Among, Sending, superframes, announced, learned, replies, sendings, accepted, told, sent_since, waits}
+use Rattle.network.specs.History.{Among, Sending, superframes, announced, learned, replies, sendings, accepted, told, under_way, waits}
 use Rattle.network.proofs.Books.{Line, Agrees}
 
 -- the bitmap that has the bit of cargo that was sent and has no fate yet: the gathered one once the device has had its news of the open
@@ -65,7 +65,9 @@ module _ {C : Type 0} (image : C → List ℕ) (n : Numbers) where
     -- nothing is under way without a configuration
     pub bound : v.configuration ≡ None → v.sent ≡ None
     pub book : List (Line C)
-    pub agrees : Agrees n.retransmission (Some g.simple) e ds v.waiting v.sent (flown opened (learned e ds) (superframes ds)) (acknowledged n (current opened (learned e ds) gathered sent) g.first) book
+    pub agrees :
+        Agrees (for_retransmission n) (Some g.simple) e ds v.waiting v.sent (flown opened (learned e ds) (superframes ds))
+        (acknowledged n (current opened (learned e ds) gathered sent) g.first) book
     -- nothing is heard of a device before its news
     pub unheard : opened ≡ true → learned e ds ≡ false → acknowledged n gathered g.first ≡ false
     -- what was heard makes its timeslot late
@@ -84,8 +86,8 @@ pub record Outside {C : Type 0} (e : ℕ) (v : Device C) (ds : List (Deed C)) : 
   pub no_sent : v.sent ≡ None
   pub no_accepted : accepted e ds ≡ []
   pub no_told : told e ds ≡ []
-  pub no_since : (r : ℕ) → sent_since r e ds ≡ 0
-  pub no_waits : (r : ℕ) → waits r e ds ≡ 0
+  pub none_under_way : (again : ℕ → Bool) → under_way e again ds ≡ 0
+  pub no_waits : (again : ℕ → Bool) → waits e again ds ≡ 0
   pub no_sendings : (x : Sending) → Among x (sendings ds) → x.device ≡ e → ⊥
 
 -- what the coordinator's management frames are

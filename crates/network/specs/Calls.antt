@@ -40,26 +40,17 @@ module _ {C : Type 0} (image : C → List ℕ) (m : PlanMeaning) where
   coordinator_after s (hears k t xs r) = hear_state m s t r
   coordinator_after s (hears_management k xs buffer r memory) = manage_state m s k xs buffer
   coordinator_after s (closes k r) = close_state s k
-  coordinator_after s (takes_beacon d xs r) = s
-  coordinator_after s (misses_beacon d r) = s
-  coordinator_after s (is_offered d x r) = s
-  coordinator_after s (sends d t buffer r memory) = s
-  coordinator_after s (writes_management d buffer r memory) = s
-  coordinator_after s (takes_management d xs r) = s
+  coordinator_after s c = s
 
   -- the device at place e after a call
   abbrev pub device_after : ℕ → Device C → Call C → Device C
-  device_after e v (set_mode mode r) = v
-  device_after e v (opens buffer r memory) = v
-  device_after e v (hears k t xs r) = v
-  device_after e v (hears_management k xs buffer r memory) = v
-  device_after e v (closes k r) = v
   device_after e v (takes_beacon d xs r) = cond (d == e) (beacon_state v xs) v
   device_after e v (misses_beacon d r) = cond (d == e) (missed_state v) v
   device_after e v (is_offered d x r) = cond (d == e) (offer_state image v x) v
   device_after e v (sends d t buffer r memory) = cond (d == e) (send_state image v t buffer) v
   device_after e v (writes_management d buffer r memory) = cond (d == e) (write_state v buffer) v
   device_after e v (takes_management d xs r) = cond (d == e) (take_state v xs) v
+  device_after e v c = v
 
   abbrev pub after : Hall C → Call C → Hall C
   after h c = record { coordinator = coordinator_after h.coordinator c; devices = λ e. device_after e (h.devices e) c }

@@ -30,22 +30,13 @@ module _ {C : Type 0} where
   sent_deed d t (suc n) memory = transmission d t (take (suc n) memory)
 
   abbrev pub deed : Call C → Deed C
-  deed (set_mode mode r) = nothing
   deed (opens buffer (Ok o) memory) = opening (take o.length memory)
-  deed (opens buffer (Err f) memory) = nothing
   deed (hears k t xs (Ok h)) = hand_up t xs h.simple h.cargo
-  deed (hears k t xs (Err f)) = nothing
   deed (hears_management k xs buffer (Ok n) memory) = reply (take n memory)
-  deed (hears_management k xs buffer (Err f) memory) = nothing
   deed (closes k (Ok u)) = closing
-  deed (closes k (Err f)) = nothing
   deed (takes_beacon d xs (Ok told)) = news d (Some xs) told
-  deed (takes_beacon d xs (Err f)) = nothing
   deed (misses_beacon d told) = news d None told
   deed (is_offered d x (Ok u)) = acceptance d x
-  deed (is_offered d x (Err f)) = nothing
   deed (sends d t buffer (Ok n) memory) = sent_deed d t n memory
-  deed (sends d t buffer (Err f) memory) = nothing
-  deed (writes_management d buffer r memory) = nothing
   deed (takes_management d xs (Ok u)) = taking d xs
-  deed (takes_management d xs (Err f)) = nothing
+  deed c = nothing

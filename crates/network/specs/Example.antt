@@ -183,11 +183,12 @@ fates d = map (λ (x : Telling). x.fate) (told d (deeds calls))
 abbrev pub arrived : ℕ → List (Arrival Reading)
 arrived d = arrivals_of_device plan devices (deeds calls) d
 
-abbrev pub own : ℕ → Reading → Arrival Reading
-own k x = record { number = k; own = true; cargo = x }
+-- acceptance k arrived in superframe s, from the timeslot t of its device, or as a repeat from there
+abbrev pub own : ℕ → ℕ → ℕ → List ℕ → Reading → Arrival Reading
+own k s t xs x = record { cargo = x; frame = record { number = k; own = true; superframe = s; timeslot = t; octets = xs } }
 
-abbrev pub repeated : ℕ → Reading → Arrival Reading
-repeated k x = record { number = k; own = false; cargo = x }
+abbrev pub repeated : ℕ → ℕ → ℕ → List ℕ → Reading → Arrival Reading
+repeated k s t xs x = record { cargo = x; frame = record { number = k; own = false; superframe = s; timeslot = t; octets = xs } }
 
 -- the premises of the guarantee: the plan is lawful, images are short and apart, full addresses differ, and the calls are a run.
 -- In it every fate is told, of readings of which some are equal. Device 0 told Repeated of its acceptances 2 and 3: the first of them
@@ -202,5 +203,5 @@ pub record Example : Type 0 where
   pub accepted_1 : accepted 1 (deeds calls) ≡ cold ∷ cold ∷ []
   pub fates_0 : fates 0 ≡ fate.Unknown ∷ fate.Repeated ∷ fate.Repeated ∷ fate.Confirmed ∷ []
   pub fates_1 : fates 1 ≡ fate.Lost ∷ fate.Confirmed ∷ []
-  pub arrived_0 : arrived 0 ≡ own 4 warm ∷ repeated 2 warm ∷ own 1 warm ∷ []
-  pub arrived_1 : arrived 1 ≡ own 1 cold ∷ []
+  pub arrived_0 : arrived 0 ≡ own 4 5 2 warm_frame warm ∷ repeated 2 4 1 warm_frame warm ∷ own 1 2 2 warm_frame warm ∷ []
+  pub arrived_1 : arrived 1 ≡ own 1 2 3 cold_frame cold ∷ []

@@ -20,17 +20,13 @@ Different ds = (d e : ℕ) → d < ds.count → e < ds.count → ds.address d �
 
 -- the call is at one of so many devices, or at the coordinator
 abbrev pub Present : {C : Type 0} → ℕ → Call C → Type 0
-Present count (set_mode mode r) = Unit {0}
-Present count (opens buffer r memory) = Unit {0}
-Present count (hears k t xs r) = Unit {0}
-Present count (hears_management k xs buffer r memory) = Unit {0}
-Present count (closes k r) = Unit {0}
 Present count (takes_beacon d xs r) = d < count
 Present count (misses_beacon d r) = d < count
 Present count (is_offered d x r) = d < count
 Present count (sends d t buffer r memory) = d < count
 Present count (writes_management d buffer r memory) = d < count
 Present count (takes_management d xs r) = d < count
+Present count c = Unit {0}
 
 module _ {C : Type 0} where
   -- octets were sent in a timeslot of the superframe that was opened last
@@ -47,16 +43,13 @@ module _ {C : Type 0} where
   -- the coordinator hears what was sent in that timeslot of that superframe;
   -- a device takes management frames that the coordinator wrote at any time
   abbrev pub KeepsRules : ℕ → List (Deed C) → Deed C → Type 0
-  KeepsRules count ds (opening xs) = Unit {0}
   KeepsRules count ds closing = (d : ℕ) → d < count → learned d ds ≡ true
   KeepsRules count ds (hand_up t xs simple x) = OnAir ds t xs
-  KeepsRules count ds (reply xs) = Unit {0}
   KeepsRules count ds (news d None told) = Unaware ds d
   KeepsRules count ds (news d (Some xs) told) = (announced ds ≡ Some xs) × (learned d ds ≡ false)
-  KeepsRules count ds (acceptance d x) = Unit {0}
   KeepsRules count ds (transmission d t xs) = (is_some (announced ds) ≡ true) × (learned d ds ≡ true)
   KeepsRules count ds (taking d xs) = Among xs (replies ds)
-  KeepsRules count ds nothing = Unit {0}
+  KeepsRules count ds d = Unit {0}
 
   abbrev pub deeds : List (Call C) → List (Deed C)
   deeds cs = map deed cs
