@@ -1,5 +1,5 @@
 -- Bitmaps in which each grant's bits are alike.
-use Rattle.std.proofs.Common.{◌≡◌, ℕ, ◌+◌, ◌/◌, ◌%◌, ◌^◌, ◌<◌, Bool, true, false, cond, ◌&&◌, ◌||◌, eqb, ltb, List, length, get_or, Some, sym, refl, ap, ◌∙◌, subst, inl, inr, arith}
+use Rattle.std.proofs.Common.{◌≡◌, ℕ, ◌/◌, ◌%◌, ◌^◌, ◌<◌, Bool, true, false, cond, ◌&&◌, ◌||◌, eqb, ltb, List, length, get_or, Some, sym, refl, ap, ◌∙◌, subst, inl, inr, arith}
 use native.Mathlib.Nat.{zero-div}
 use lib.ListN.{length-replicate, get_or-replicate}
 use Rattle.std.proofs.lemmas.List.{get_or_past}
@@ -10,8 +10,10 @@ use Rattle.plan.specs.Rules.{PlanMeaning, Rules, grant_at, Holds}
 use Rattle.plan.specs.Answers.{holding}
 use Rattle.plan.specs.Decisions.{holding_decides}
 use Rattle.plan.proofs.Lawful.{at_most_one_holder, grant_within}
-use Rattle.repeats.specs.Bitmaps.{bit, place, acknowledged, nothing_heard, Marks}
+use Rattle.repeats.specs.BitAndRepeatTimeslots.{before_bits, place, timeslot_with}
+use Rattle.repeats.specs.Bitmaps.{bit, acknowledged, nothing_heard, Marks}
 use Rattle.repeats.specs.Laws.{BitsAlike, AlwaysAlike, StaysAlike}
+use Rattle.repeats.proofs.BitsAndRepeatsLieApart.{own_has_bit}
 
 zero_octet : (i : ℕ) → get_or nothing_heard i 0 ≡ 0
 zero_octet i = elim (cases_lt i 32) [
@@ -34,9 +36,9 @@ module _ (n : Numbers) (xs ys : List ℕ) (g : Grant) (marked : Marks n xs g ys)
   either a true x e = rw e refl
   either a false x e = rw e refl
 
-  acknowledged_then : (t : ℕ) → n.retransmission < t → place n t < 256 → acknowledged n ys t ≡ (holding t g || acknowledged n xs t)
+  acknowledged_then : (t : ℕ) → before_bits n < t → place n t < 256 → acknowledged n ys t ≡ (holding t g || acknowledged n xs t)
   acknowledged_then t above fit =
-      let there : n.retransmission + 1 + place n t ≡ t = omega arith in
+      let there : timeslot_with n (place n t) ≡ t = omega arith in
       let r = lt-ltb _ _ above in
       let e : eqb (bit ys (place n t)) 1 ≡ (holding t g || eqb (bit xs (place n t)) 1) =
       ap (λ (x : ℕ). eqb x 1) (marked (place n t))
@@ -62,11 +64,12 @@ stays m i xs ys g rules here marked alike j h there t held =
     let w = grant_within m rules j h there in
     let few = rules.framed.numbers.timeslots in
     let begin : Holds h h.first = (omega arith, omega arith) in
+    let has = own_has_bit m rules j h there in
     let q = same_tests (holding t g) (holding h.first g) (held_alike m i j g h t h.first rules here there held begin) (held_alike m i j g h h.first t rules here there begin held) in
-    acknowledged_then m.numbers xs ys g marked t (omega arith) (omega arith)
+    acknowledged_then m.numbers xs ys g marked t (has t held) (omega arith)
     ∙ ap (λ (b : Bool). b || acknowledged m.numbers xs t) q
     ∙ ap (λ (b : Bool). holding h.first g || b) (alike j h there t held)
-    ∙ sym (acknowledged_then m.numbers xs ys g marked h.first (omega arith) (omega arith))
+    ∙ sym (acknowledged_then m.numbers xs ys g marked h.first (has h.first begin) (omega arith))
 
 -- marking keeps each grant's bits alike
 pub stays_alike : (n : Numbers) (xs ys : List ℕ) (g : Grant) → Marks n xs g ys → StaysAlike n xs g ys

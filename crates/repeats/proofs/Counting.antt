@@ -2,6 +2,7 @@
 use Rattle.std.proofs.Common.{◌≡◌, ℕ, zero, suc, ◌+◌, ◌-◌, ◌<◌, ◌≤◌, Bool, true, false, cond, List, ap, ◌∙◌, inl, inr, add-zero, add-suc, arith}
 use Rattle.std.proofs.lemmas.Bool.{cases_Bool, and_parts, ltb-true}
 use Rattle.plan.specs.declared.grant.Numbers.{Numbers}
+use Rattle.repeats.specs.BitAndRepeatTimeslots.{before_bits}
 use Rattle.repeats.specs.Bitmaps.{missed}
 use Rattle.repeats.specs.Starts.{count_below, zeros}
 
@@ -44,7 +45,7 @@ zeros_few n xs (suc t) =
     elim (cases_Bool (missed n xs t)) [
       | inl q ↦
           let s = count_hit (missed n xs) t q in
-          let above : n.retransmission < t = ltb-true _ _ (and_parts _ _ q).0 in
+          let above : before_bits n < t = ltb-true _ _ (and_parts _ _ q).0 in
           omega arith
       | inr q ↦ let s = count_skip (missed n xs) t q in omega arith
     ]

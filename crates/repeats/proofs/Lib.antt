@@ -1,6 +1,8 @@
 pub mod Marking
 pub mod Counting
 pub mod Starting
+pub mod BitsAndRepeatsLieApart
+pub mod RepeatsAreForRetransmission
 pub mod Serving
 pub mod Alike
 pub mod Sending

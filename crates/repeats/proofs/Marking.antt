@@ -9,7 +9,8 @@ use Rattle.std.proofs.lemmas.Bool.Decides.{nat_tests}
 use Rattle.frame.specs.Octets.{bits, octet}
 use Rattle.plan.specs.declared.grant.Grant.{Grant}
 use Rattle.plan.specs.declared.grant.Numbers.{Numbers}
-use Rattle.repeats.specs.Bitmaps.{bit, place, with_bit, with_timeslot, with_timeslots, marked_with, Marks}
+use Rattle.repeats.specs.BitAndRepeatTimeslots.{before_bits, place, timeslot_with}
+use Rattle.repeats.specs.Bitmaps.{bit, with_bit, with_timeslot, with_timeslots, marked_with, Marks}
 
 -- a power of two has the one bit
 power_same : (k : ℕ) → 2 ^ k / 2 ^ k % 2 ≡ 1
@@ -72,7 +73,7 @@ with_bit_bits xs k j h =
     ]
 
 pub length-with_timeslot : (n : Numbers) (xs : List ℕ) (t : ℕ) → length (with_timeslot n xs t) ≡ length xs
-length-with_timeslot n xs t = elim (cases_lt n.retransmission t) [
+length-with_timeslot n xs t = elim (cases_lt (before_bits n) t) [
   | inl h ↦ ap length (cond-true _ _ _ (lt-ltb _ _ h)) ∙ length-set xs _ _
   | inr h ↦ ap length (cond-false _ _ _ (le-ltb _ _ h))
 ]
@@ -82,8 +83,8 @@ length-with_timeslots n xs f zero = refl
 length-with_timeslots n xs f (suc c) = length-with_timeslot n (with_timeslots n xs f c) (f + c) ∙ length-with_timeslots n xs f c
 
 -- acknowledging timeslot t sets its bit, and leaves the others
-slot_bits : (n : Numbers) (xs : List ℕ) (t k : ℕ) → length xs ≡ 32 → bit (with_timeslot n xs t) k ≡ cond (ltb k 256 && eqb t (n.retransmission + 1 + k)) 1 (bit xs k)
-slot_bits n xs t k len = elim (cases_lt n.retransmission t) [
+slot_bits : (n : Numbers) (xs : List ℕ) (t k : ℕ) → length xs ≡ 32 → bit (with_timeslot n xs t) k ≡ cond (ltb k 256 && eqb t (timeslot_with n k)) 1 (bit xs k)
+slot_bits n xs t k len = elim (cases_lt (before_bits n) t) [
   | inl h ↦ ap (λ (ys : List ℕ). bit ys k) (cond-true _ _ _ (lt-ltb _ _ h)) ∙ (elim (cases_lt (place n t) 256) [
     | inl s ↦ with_bit_bits xs (place n t) k (omega arith) ∙ ap (λ (b : Bool). cond b 1 (bit xs k)) (there h s)
     | inr s ↦
@@ -93,22 +94,22 @@ slot_bits n xs t k len = elim (cases_lt n.retransmission t) [
   | inr h ↦ ap (λ (ys : List ℕ). bit ys k) (cond-false _ _ _ (le-ltb _ _ h)) ∙ sym (cond-false _ _ _ (and_right _ _ (ne_eqb t _ (λ e. omega arith))))
 ]
   where
-    there : n.retransmission < t → place n t < 256 → eqb k (place n t) ≡ (ltb k 256 && eqb t (n.retransmission + 1 + k))
+    there : before_bits n < t → place n t < 256 → eqb k (place n t) ≡ (ltb k 256 && eqb t (timeslot_with n k))
     there h s = grind (arith, nat_tests)
 
-    past : 256 ≤ place n t → (ltb k 256 && eqb t (n.retransmission + 1 + k)) ≡ false
+    past : 256 ≤ place n t → (ltb k 256 && eqb t (timeslot_with n k)) ≡ false
     past s = grind (arith, nat_tests)
 
 one_further : (a : Bool) (f c s b : ℕ) → cond (a && eqb (f + c) s) 1 (cond (a && (leb f s && ltb s (f + c))) 1 b) ≡ cond (a && (leb f s && ltb s (f + suc c))) 1 b
 one_further a f c s b = let e = add-suc f c in grind (arith, nat_tests)
 
 -- the same of a run of timeslots
-pub slots_bits : (n : Numbers) (xs : List ℕ) (f c k : ℕ) → length xs ≡ 32 → bit (with_timeslots n xs f c) k ≡ cond (ltb k 256 && (leb f (n.retransmission + 1 + k) && ltb (n.retransmission + 1 + k) (f + c))) 1 (bit xs k)
+pub slots_bits : (n : Numbers) (xs : List ℕ) (f c k : ℕ) → length xs ≡ 32 → bit (with_timeslots n xs f c) k ≡ cond (ltb k 256 && (leb f (timeslot_with n k) && ltb (timeslot_with n k) (f + c))) 1 (bit xs k)
 slots_bits n xs f zero k len = grind (arith, nat_tests)
 slots_bits n xs f (suc c) k len =
     slot_bits n (with_timeslots n xs f c) (f + c) k (length-with_timeslots n xs f c ∙ len)
-    ∙ ap (cond (ltb k 256 && eqb (f + c) (n.retransmission + 1 + k)) 1) (slots_bits n xs f c k len)
-    ∙ one_further (ltb k 256) f c (n.retransmission + 1 + k) (bit xs k)
+    ∙ ap (cond (ltb k 256 && eqb (f + c) (timeslot_with n k)) 1) (slots_bits n xs f c k len)
+    ∙ one_further (ltb k 256) f c (timeslot_with n k) (bit xs k)
 
 -- marking sets the bits of the grant's timeslots, and leaves the others
 pub marks : (n : Numbers) (xs : List ℕ) (g : Grant) → length xs ≡ 32 → Marks n xs g (marked_with n xs g)

@@ -1,5 +1,5 @@
 -- The octets of a bitmap that a beacon carries say the same of every grant as the whole bitmap.
-use Rattle.std.proofs.Common.{◌≡◌, ℕ, zero, suc, ◌+◌, ◌-◌, ◌/◌, ◌%◌, ◌<◌, ◌≤◌, Bool, cond, not, ◌&&◌, eqb, ltb, List, length, take, Some, None, sym, refl, ap, ◌∙◌, inl, inr, arith}
+use Rattle.std.proofs.Common.{◌≡◌, ℕ, zero, suc, ◌+◌, ◌/◌, ◌%◌, ◌<◌, ◌≤◌, Bool, cond, not, ◌&&◌, eqb, List, length, take, Some, None, sym, refl, ap, ◌∙◌, inl, inr, arith}
 use Rattle.std.proofs.lemmas.List.{get_or-take, length-take-le}
 use Rattle.std.proofs.lemmas.Bool.{and_left, and_right, cases_lt, cond-false, le-ltb}
 use Rattle.frame.specs.Octets.{bits}
@@ -8,28 +8,30 @@ use Rattle.plan.specs.declared.grant.Numbers.{Numbers}
 use Rattle.plan.specs.Rules.{PlanMeaning, Rules, grant_at, bitmap_octets}
 use Rattle.plan.specs.Decisions.{held_before}
 use Rattle.plan.proofs.Lawful.{grant_within}
-use Rattle.repeats.specs.Bitmaps.{bit, place, acknowledged, missed, nothing_heard, Fits, Marks}
+use Rattle.repeats.specs.BitAndRepeatTimeslots.{before_bits, before_repeats, has_bit, place, timeslot_with, bit_count}
+use Rattle.repeats.specs.Bitmaps.{bit, acknowledged, missed, nothing_heard, Fits, Marks}
 use Rattle.repeats.specs.Starts.{zeros, may_repeat, has_room, repeat_start}
 use Rattle.repeats.specs.Laws.{BitsAlike}
 use Rattle.repeats.proofs.Alike.{zero_bit}
+use Rattle.repeats.proofs.BitsAndRepeatsLieApart.{place_is_counted, uncounted_is_past}
 use Rattle.repeats.proofs.Marking.{bit_past}
 
 -- what a beacon carries of a bitmap
 abbrev pub sent : Numbers → List ℕ → List ℕ
 sent n xs = take (bitmap_octets n) xs
 
-pub bit_sent : (n : Numbers) (xs : List ℕ) (k : ℕ) → k < n.timeslots - n.retransmission → bit (sent n xs) k ≡ bit xs k
+pub bit_sent : (n : Numbers) (xs : List ℕ) (k : ℕ) → k < bit_count n → bit (sent n xs) k ≡ bit xs k
 bit_sent n xs k h = ap (bits (k % 8) 1) (get_or-take (bitmap_octets n) xs (k / 8) 0 (omega arith))
 
 module _ (n : Numbers) (xs : List ℕ) where
   pub acknowledged_sent : (t : ℕ) → t ≤ n.timeslots → acknowledged n (sent n xs) t ≡ acknowledged n xs t
-  acknowledged_sent t h = elim (cases_lt n.retransmission t) [
-    | inl above ↦ ap (λ (x : ℕ). ltb n.retransmission t && eqb x 1) (bit_sent n xs (place n t) (omega arith))
+  acknowledged_sent t h = elim (cases_lt (before_bits n) t) [
+    | inl above ↦ ap (λ (x : ℕ). has_bit n t && eqb x 1) (bit_sent n xs (place n t) (place_is_counted n t above h))
     | inr below ↦ and_left _ _ (le-ltb _ _ below) ∙ sym (and_left _ _ (le-ltb _ _ below))
   ]
 
   pub missed_sent : (t : ℕ) → t ≤ n.timeslots → missed n (sent n xs) t ≡ missed n xs t
-  missed_sent t h = ap (λ (b : Bool). ltb n.retransmission t && not b) (acknowledged_sent t h)
+  missed_sent t h = ap (λ (b : Bool). has_bit n t && not b) (acknowledged_sent t h)
 
   pub zeros_sent : (t : ℕ) → t ≤ n.timeslots + 1 → zeros n (sent n xs) t ≡ zeros n xs t
   zeros_sent zero h = refl
@@ -41,8 +43,8 @@ module _ (n : Numbers) (xs : List ℕ) where
   pub repeat_start_sent : (g : Grant) → g.first ≤ n.timeslots → repeat_start n (sent n xs) g ≡ repeat_start n xs g
   unfolding repeat_start
   repeat_start_sent g h =
-      ap (λ (b : Bool). cond ((may_repeat n g && b) && has_room n (zeros n (sent n xs) g.first) g.width) (Some (zeros n (sent n xs) g.first + 1)) None) (missed_sent g.first h)
-      ∙ ap (λ (z : ℕ). cond ((may_repeat n g && missed n xs g.first) && has_room n z g.width) (Some (z + 1)) None) (zeros_sent g.first (omega arith))
+      ap (λ (b : Bool). cond ((may_repeat n g && b) && has_room n (zeros n (sent n xs) g.first) g.width) (Some (before_repeats n + zeros n (sent n xs) g.first + 1)) None) (missed_sent g.first h)
+      ∙ ap (λ (z : ℕ). cond ((may_repeat n g && missed n xs g.first) && has_room n z g.width) (Some (before_repeats n + z + 1)) None) (zeros_sent g.first (omega arith))
 
 pub sent_alike : (m : PlanMeaning) (xs : List ℕ) → Rules m → BitsAlike m xs → BitsAlike m (sent m.numbers xs)
 sent_alike m xs rules alike i g at t held =
@@ -51,7 +53,7 @@ sent_alike m xs rules alike i g at t held =
 
 -- no bit is one that no timeslot has
 abbrev pub PaddingClear : Numbers → List ℕ → Type 0
-PaddingClear n xs = (k : ℕ) → n.timeslots - n.retransmission ≤ k → bit xs k ≡ 0
+PaddingClear n xs = (k : ℕ) → bit_count n ≤ k → bit xs k ≡ 0
 
 pub nothing_clear : (n : Numbers) → PaddingClear n nothing_heard
 nothing_clear n k h = zero_bit k
@@ -59,7 +61,8 @@ nothing_clear n k h = zero_bit k
 pub marked_clear : (m : PlanMeaning) (i : ℕ) (g : Grant) (xs ys : List ℕ) → Rules m → grant_at m i ≡ Some g → Marks m.numbers xs g ys → PaddingClear m.numbers xs → PaddingClear m.numbers ys
 marked_clear m i g xs ys rules at marks clear k h =
     let w = grant_within m rules i g at in
-    let past = held_before (m.numbers.retransmission + 1 + k) g (omega arith) in
+    let after = uncounted_is_past m.numbers k h in
+    let past = held_before (timeslot_with m.numbers k) g (omega arith) in
     marks k ∙ cond-false _ _ _ (and_right _ _ past) ∙ clear k h
 
 -- what a beacon carries of a whole bitmap fits

@@ -1,7 +1,7 @@
 -- Who is served, in every plan and every bitmap in which each grant's bits are alike.
-use Rattle.std.proofs.Common.{◌≡◌, ℕ, ◌+◌, ◌<◌, ◌≤◌, true, false, not, eqb, ltb, List, Some, None, Option, sym, refl, ap, ◌∙◌, subst, inl, inr, ⊎_elim, arith}
+use Rattle.std.proofs.Common.{◌≡◌, ℕ, ◌+◌, ◌<◌, ◌≤◌, true, false, not, eqb, List, Some, None, Option, sym, refl, ap, ◌∙◌, subst, inl, inr, ⊎_elim, arith}
 use Rattle.std.proofs.lemmas.Option.{same_Some}
-use Rattle.std.proofs.lemmas.Bool.{and_from, and_parts, both_ways, cases_eq, cases_lt, cases_order, cond-true, cond-false, lt-ltb, lt-leb, le-leb, eqb-true, eq-eqb, ne_eqb}
+use Rattle.std.proofs.lemmas.Bool.{and_from, and_parts, both_ways, cases_Bool, cases_eq, cases_order, cond-true, cond-false, lt-ltb, eqb-true, eq-eqb, ne_eqb}
 use Rattle.std.specs.Bool.{then_some}
 use Rattle.std.specs.Option.{option_map}
 use Rattle.plan.specs.declared.grant.Grant.{Grant}
@@ -9,15 +9,18 @@ use Rattle.plan.specs.Rules.{PlanMeaning, Rules, grant_at}
 use Rattle.plan.specs.Answers.{holder_of, with_grant}
 use Rattle.plan.specs.Laws.{Names}
 use Rattle.plan.proofs.Lawful.{at_most_one_holder, disjoint, grant_within, names_the_one, names_holder}
+use Rattle.repeats.specs.BitAndRepeatTimeslots.{has_bit, for_retransmission}
 use Rattle.repeats.specs.Bitmaps.{acknowledged, missed}
 use Rattle.repeats.specs.Starts.{zeros, may_repeat, wants_repeat, repeat_start, starts_at, repeater_at, beginner_at, sender_at}
 use Rattle.repeats.specs.Laws.{BitsAlike, RepeatsApart, RepeatsWithin, NamesRepeater, NamesSender, ServedInOrder}
+use Rattle.repeats.proofs.BitsAndRepeatsLieApart.{own_has_bit, own_is_not_for_retransmission}
 use Rattle.repeats.proofs.Counting.{count_up, count_run}
+use Rattle.repeats.proofs.RepeatsAreForRetransmission.{repeat_is_for_retransmission}
 use Rattle.repeats.proofs.Starting.{started, unserved, too_late}
 
--- the repeats lie in 1 to R
+-- the repeats lie in the timeslots for retransmission
 pub within : (m : PlanMeaning) (xs : List ℕ) → RepeatsWithin m xs
-within m xs t i g at r = let s = started m.numbers xs g r.0 r.1 in (omega arith, omega arith)
+within m xs t i g at r = repeat_is_for_retransmission m.numbers xs g t r
 
 -- what a number with its grant tells
 grant_told : (k i : ℕ) (g : Grant) (o : Option Grant) → option_map {U = ℕ × Grant} (λ h. (k, h)) o ≡ Some (i, g) → (k ≡ i) × (o ≡ Some g)
@@ -78,10 +81,9 @@ module _ (m : PlanMeaning) (xs : List ℕ) (rules : Rules m) (alike : BitsAlike 
   -- all timeslots of a grant that is to repeat have bit zero
   all_missed : (i : ℕ) (g : Grant) → grant_at m i ≡ Some g → wants_repeat m.numbers xs g ≡ true → (t : ℕ) → g.first ≤ t → t < g.first + g.width → missed m.numbers xs t ≡ true
   all_missed i g at wants t low high =
-      let w = grant_within m rules i g at in
       let first = (and_parts (may_repeat m.numbers g) (missed m.numbers xs g.first) wants).1 in
-      let bit = (and_parts (ltb m.numbers.retransmission g.first) (not (acknowledged m.numbers xs g.first)) first).1 in
-      and_from _ _ (lt-ltb _ _ (omega arith)) (ap not (alike i g at t (low, high)) ∙ bit)
+      let bit = (and_parts (has_bit m.numbers g.first) (not (acknowledged m.numbers xs g.first)) first).1 in
+      and_from _ _ (lt-ltb _ _ (own_has_bit m rules i g at t (low, high))) (ap not (alike i g at t (low, high)) ∙ bit)
 
   -- an earlier grant takes its share of timeslots before a later one counts
   earlier : (i j : ℕ) (g h : Grant) → grant_at m i ≡ Some g → grant_at m j ≡ Some h → wants_repeat m.numbers xs g ≡ true → g.first < h.first → zeros m.numbers xs g.first + g.width ≤ zeros m.numbers xs h.first
@@ -133,26 +135,27 @@ module _ (m : PlanMeaning) (xs : List ℕ) (rules : Rules m) (alike : BitsAlike 
 
   pub names_sender : (t : ℕ) → NamesSender m xs t (sender_at m xs t)
   unfolding sender_at
-  names_sender t i = elim (cases_lt m.numbers.retransmission t) [
-    | inl above ↦
-        let e = cond-false _ (repeater_at m xs t) (beginner_at m t) (lt-leb _ _ above) in
+  names_sender t i = elim (cases_Bool (for_retransmission m.numbers t)) [
+    | inr own ↦
+        let e = cond-false _ (repeater_at m xs t) (beginner_at m t) own in
         let n = names_beginner m rules t i in (
           λ f. let w = n.0 (sym e ∙ f) in (w.0, w.1, inl w.2),
-          λ w. e ∙ n.1 (w.0, w.1, ⊎_elim (λ q. q) (λ q. absurd (too_high w.0 w.1 q above)) w.2),
+          λ w. e ∙ n.1 (w.0, w.1, ⊎_elim (λ q. q) (λ q. absurd (own_timeslot w.0 w.1 q own)) w.2),
         )
-    | inr below ↦
-        let e = cond-true _ (repeater_at m xs t) (beginner_at m t) (le-leb _ _ below) in
+    | inl repeat ↦
+        let e = cond-true _ (repeater_at m xs t) (beginner_at m t) repeat in
         let n = names_repeater t i in (
           λ f. let w = n.0 (sym e ∙ f) in (w.0, w.1, inr w.2),
-          λ w. e ∙ n.1 (w.0, w.1, ⊎_elim (λ q. absurd (too_low w.0 w.1 q below)) (λ q. q) w.2),
+          λ w. e ∙ n.1 (w.0, w.1, ⊎_elim (λ q. absurd (repeat_timeslot w.0 w.1 q repeat)) (λ q. q) w.2),
         )
   ]
     where
-      too_high : (g : Grant) → grant_at m i ≡ Some g → repeat_start m.numbers xs g ≡ Some t → m.numbers.retransmission < t → ⊥
-      too_high g at q above =
-          let s = started m.numbers xs g t q in
+      own_timeslot : (g : Grant) → grant_at m i ≡ Some g → repeat_start m.numbers xs g ≡ Some t → for_retransmission m.numbers t ≡ false → ⊥
+      own_timeslot g at q own =
           let w = grant_within m rules i g at in
-          omega arith
+          both_ways _ own (repeat_is_for_retransmission m.numbers xs g t (t, q, omega arith, omega arith))
 
-      too_low : (g : Grant) → grant_at m i ≡ Some g → g.first ≡ t → t ≤ m.numbers.retransmission → ⊥
-      too_low g at q below = let w = grant_within m rules i g at in omega arith
+      repeat_timeslot : (g : Grant) → grant_at m i ≡ Some g → g.first ≡ t → for_retransmission m.numbers t ≡ true → ⊥
+      repeat_timeslot g at q repeat =
+          let w = grant_within m rules i g at in
+          both_ways _ (own_is_not_for_retransmission m rules i g at t (omega arith, omega arith)) repeat

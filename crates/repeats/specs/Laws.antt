@@ -4,6 +4,7 @@ use Rattle.plan.specs.declared.grant.Grant.{Grant}
 use Rattle.plan.specs.declared.grant.Numbers.{Numbers}
 use Rattle.plan.specs.Rules.{PlanMeaning, Rules, grant_at, Holds}
 use Rattle.plan.specs.Laws.{Names}
+use Rattle.repeats.specs.BitAndRepeatTimeslots.{for_retransmission}
 use Rattle.repeats.specs.Bitmaps.{acknowledged}
 use Rattle.repeats.specs.Starts.{wants_repeat, repeat_start}
 
@@ -27,9 +28,9 @@ RepeatsIn n xs g t = (s : ℕ) × (repeat_start n xs g ≡ Some s) × (s ≤ t) 
 abbrev pub RepeatsApart : PlanMeaning → List ℕ → Type 0
 RepeatsApart m xs = (t i j : ℕ) (g h : Grant) → grant_at m i ≡ Some g → grant_at m j ≡ Some h → RepeatsIn m.numbers xs g t → RepeatsIn m.numbers xs h t → i ≡ j
 
--- all repeats lie in the timeslots 1 to R
+-- all repeats lie in the timeslots for retransmission
 abbrev pub RepeatsWithin : PlanMeaning → List ℕ → Type 0
-RepeatsWithin m xs = (t i : ℕ) (g : Grant) → grant_at m i ≡ Some g → RepeatsIn m.numbers xs g t → (1 ≤ t) × (t ≤ m.numbers.retransmission)
+RepeatsWithin m xs = (t i : ℕ) (g : Grant) → grant_at m i ≡ Some g → RepeatsIn m.numbers xs g t → for_retransmission m.numbers t ≡ true
 
 -- an answer names the one grant whose own repeat starts at timeslot t
 abbrev pub NamesRepeater : PlanMeaning → List ℕ → ℕ → Option ℕ → Type 0

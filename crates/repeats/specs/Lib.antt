@@ -1,3 +1,4 @@
+pub mod BitAndRepeatTimeslots
 pub mod Bitmaps
 pub mod Starts
 pub mod Laws

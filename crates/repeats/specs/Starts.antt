@@ -6,6 +6,7 @@ use Rattle.plan.specs.declared.grant.Grant.{Grant}
 use Rattle.plan.specs.declared.grant.Numbers.{Numbers}
 use Rattle.plan.specs.Rules.{PlanMeaning, direction_of}
 use Rattle.plan.specs.Answers.{first_grant}
+use Rattle.repeats.specs.BitAndRepeatTimeslots.{before_repeats, for_retransmission}
 use Rattle.repeats.specs.Bitmaps.{missed}
 
 -- how many numbers below one pass a test
@@ -13,7 +14,7 @@ abbrev pub count_below : (ℕ → Bool) → ℕ → ℕ
 count_below p zero = 0
 count_below p (suc n) = count_below p n + cond (p n) 1 0
 
--- how many bits are zero of the timeslots R + 1 to t - 1, whoever owns them
+-- how many timeslots before t have a bit that is zero, whoever owns them
 abbrev pub zeros : Numbers → List ℕ → ℕ → ℕ
 zeros n xs t = count_below (missed n xs) t
 
@@ -34,11 +35,12 @@ wants_repeat n xs g = may_repeat n g && missed n xs g.first
 abbrev pub has_room : Numbers → ℕ → ℕ → Bool
 has_room n z w = nat_le (z + w) n.retransmission
 
--- the first timeslot of a grant's repeat, behind as many as there are zeros before the grant, or none where the repeat would pass R
+-- the first timeslot of a grant's repeat: of those for retransmission it leaves as many to others as there are zeros
+-- before the grant; none where the repeat would pass the last of them
 unfoldable pub repeat_start : Numbers → List ℕ → Grant → Option ℕ
 repeat_start n xs g =
     cond (wants_repeat n xs g && has_room n (zeros n xs g.first) g.width)
-    (Some (zeros n xs g.first + 1)) None
+    (Some (before_repeats n + zeros n xs g.first + 1)) None
 
 -- whether a repeat starts at timeslot t
 abbrev pub starts_at : ℕ → Option ℕ → Bool
@@ -53,10 +55,7 @@ repeater_at m xs t = first_grant m (λ g. starts_at t (repeat_start m.numbers xs
 unfoldable pub beginner_at : PlanMeaning → ℕ → Option ℕ
 beginner_at m t = first_grant m (λ g. nat_eq g.first t)
 
--- whether timeslot t is one of those for retransmission
-abbrev pub for_retransmission : Numbers → ℕ → Bool
-for_retransmission n t = nat_le t n.retransmission
-
--- the number of the grant whose frame starts at timeslot t, or none: up to R the grant that repeats there, above it the one that begins there
+-- the number of the grant whose frame starts at timeslot t, or none: among the timeslots for retransmission the grant
+-- that repeats there, else the one that begins there
 unfoldable pub sender_at : PlanMeaning → List ℕ → ℕ → Option ℕ
 sender_at m xs t = cond (for_retransmission m.numbers t) (repeater_at m xs t) (beginner_at m t)

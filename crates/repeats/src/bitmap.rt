@@ -3,6 +3,7 @@ ghost use Rattle.std.specs.Prelude.{◌≡◌, Decides, ◌==◌};
 ghost use Rattle.repeats.specs.Laws.{AlwaysAlike, StaysAlike};
 ghost use Rattle.repeats.specs.Bitmaps.{bit, acknowledged, missed, nothing_heard, with_timeslot, marked_with, Marks, Fits};
 
+use super::timeslots::before_bits;
 use plan::{Grant, Numbers};
 
 // A coordinator's bitmap, with room for every plan. There is no heap, and it is gathered and sent by value.
@@ -43,11 +44,11 @@ pub fn marked(bitmap: Bitmap, numbers: Numbers, grant: Grant) -> Bitmap
 fn mark_timeslot(bitmap: &mut [u8], numbers: Numbers, t: u16)
     ensures { bitmap.new ≡ with_timeslot numbers bitmap.old t }
 {
-    let last = u16::from(numbers.retransmission);
-    if t <= last {
+    let before = u16::from(before_bits(numbers));
+    if t <= before {
         return;
     }
-    let place = usize::from(t - last - 1);
+    let place = usize::from(t - before - 1);
     // The contract of `get_mut` does not say what the slice ends as.
     if place / 8 < bitmap.len() {
         bitmap[place / 8] |= 1 << (place % 8);
@@ -59,15 +60,15 @@ impl GroupAcknowledgment<'_> {
     pub fn is_set(self, t: u8) -> bool
         ensures { result ≡ acknowledged self.entry.numbers self.entry.octets.now t }
     {
-        t > self.numbers.retransmission
-            && self.bit_is_set(usize::from(t - self.numbers.retransmission - 1))
+        let before = before_bits(self.numbers);
+        t > before && self.bit_is_set(usize::from(t - before - 1))
     }
 
     // Whether timeslot t has a bit, and the bit is zero.
     pub(crate) fn is_missed(self, t: u8) -> bool
         ensures { result ≡ missed self.entry.numbers self.entry.octets.now t }
     {
-        t > self.numbers.retransmission && !self.is_set(t)
+        t > before_bits(self.numbers) && !self.is_set(t)
     }
 
     // Whether bit k is one. Past the end it is not.

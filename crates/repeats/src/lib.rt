@@ -5,6 +5,8 @@ mod bitmap;
 mod starts;
 #[cfg(test)]
 mod tests;
+mod timeslots;
 
 pub use bitmap::{Bitmap, GroupAcknowledgment, marked, no_bits};
 pub use starts::{repeater, sender};
+pub use timeslots::is_for_retransmission;

@@ -4,6 +4,7 @@ ghost use Rattle.repeats.specs.Laws.{BitsAlike, NamesRepeater, NamesSender, Repe
 ghost use Rattle.repeats.specs.Starts.{zeros, may_repeat, wants_repeat, has_room, repeat_start, repeater_at, beginner_at, sender_at};
 
 use super::bitmap::GroupAcknowledgment;
+use super::timeslots::{before_repeats, is_for_retransmission};
 use frame::Direction;
 use plan::{Grant, Grants, Numbers, SlotPlan, grant_holding};
 
@@ -38,15 +39,17 @@ impl GroupAcknowledgment<'_> {
     }
 
     // The first timeslot of the grant's repeat, or none.
-    #[tactic(auto, using(crate::proofs::Counting::zeros_few), unfolding(crate::specs::Starts::repeat_start))]
+    #[tactic(auto, using(crate::proofs::BitsAndRepeatsLieApart::repeat_starts_low), unfolding(crate::specs::Starts::repeat_start))]
     pub fn repeat_start(self, grant: Grant) -> Option<u8>
         ensures { result ≡ repeat_start self.entry.numbers self.entry.octets.now grant }
     {
         if !self.wants_repeat(grant) {
             return None;
         }
-        let before = self.zeros_before(grant.first);
-        has_room(self.numbers, before, grant.width).then_some(before + 1)
+        let zeros = self.zeros_before(grant.first);
+        has_room(self.numbers, zeros, grant.width).then_some(
+            before_repeats(self.numbers) + zeros + 1,
+        )
     }
 }
 
@@ -76,12 +79,12 @@ fn beginner<P: SlotPlan>(plan: &P, t: u8) -> Option<usize>
     (grant.first == t).then_some(i)
 }
 
-// The number of the grant whose frame starts at timeslot t, or none: the frame is a repeat in the timeslots up to R.
+// The number of the grant whose frame starts at timeslot t, or none: the frame is a repeat in the timeslots for retransmission.
 pub fn sender<P: SlotPlan>(plan: &P, octets: &[u8], t: u8) -> Option<usize>
     ensures answer { result ≡ sender_at (P.SlotPlan.meaning plan.now) octets.now t }
     ensures names { BitsAlike (P.SlotPlan.meaning plan.now) octets.now → NamesSender (P.SlotPlan.meaning plan.now) octets.now t result }
 {
-    if t <= plan.numbers().retransmission {
+    if is_for_retransmission(plan.numbers(), t) {
         repeater(plan, octets, t)
     } else {
         beginner(plan, t)
