@@ -1,27 +1,11 @@
 -- The stages of a call, by which the functions that it is made of are described.
-use Rattle.std.specs.Prelude.{◌≡◌, ℕ, cond, not, ◌||◌, List, Some, None, Ok, Err, Option, Result, ◌==◌, nat_le, nat_lt}
+use Rattle.std.specs.Prelude.{◌≡◌, ℕ, List, Some, None, Ok, Err, Option, Result}
 use Rattle.frame.specs.declared.faults.Fault.{Fault}
 use Rattle.frame.specs.declared.faults.Refusal.TheVariants as refusal
 use Rattle.frame.specs.Refusals.{fault}
-use Rattle.plan.specs.declared.grant.Numbers.{Numbers}
 use Rattle.coordinator.specs.declared.state.Inner.{Inner}
 use Rattle.coordinator.specs.declared.state.Record.{Record}
-use Rattle.coordinator.specs.Beacons.{state_of}
-use Rattle.coordinator.specs.Steps.{Managed, is_open, is_online, is_managing, record_at, with_record, replying, reply_state, reply_memory}
-
--- whether a frame may be heard at timeslot t of superframe k, whoever sends it
-abbrev pub admitting : Numbers → Inner → ℕ → ℕ → Result (Unit {0}) Fault
-admitting n s k t =
-    cond (not (is_open s k)) (Err (fault refusal.Superframe 0))
-    (cond (not (is_online (state_of s.mode))) (Err (fault refusal.Mode 0))
-    (cond (t == 0 || nat_lt n.timeslots t) (Err (fault refusal.Timeslot t))
-    (cond (nat_le t s.last) (Err (fault refusal.Late t)) (Ok tt))))
-
--- whether a management frame may be heard in superframe k, whatever it is
-abbrev pub admitting_management : Inner → ℕ → Result (Unit {0}) Fault
-admitting_management s k =
-    cond (not (is_open s k)) (Err (fault refusal.Superframe 0))
-    (cond (not (is_managing (state_of s.mode))) (Err (fault refusal.Mode 0)) (Ok tt))
+use Rattle.coordinator.specs.Steps.{Managed, record_at, with_record, replying, reply_state, reply_memory}
 
 -- the record of grant i became what a change makes of it, where each change of a record is the one that `r` gives
 abbrev pub Notes : (Record → Record → Type 0) → List Record → ℕ → List Record → Type 0

@@ -7,8 +7,7 @@ use Rattle.frame.specs.declared.frames.Acknowledged.TheVariants as acknowledged
 use Rattle.frame.specs.declared.frames.Command.{Command}
 use Rattle.frame.specs.declared.frames.Command.TheVariants as commands
 use Rattle.frame.specs.Formats.{Told, reading}
-use Rattle.frame.specs.Messages.{Message, online_beacon, discovery_beacon, configuration_beacon, reset_beacon, data_frame, acknowledgment_frame, command_frame, octets_of}
-use Rattle.frame.specs.Messages.{State, online, discovery, configuration, reset}
+use Rattle.frame.specs.Messages.{Message, acknowledgment_frame, command_frame, octets_of, State, online, discovery, configuration}
 use Rattle.frame.specs.Refusals.{fault}
 use Rattle.frame.specs.Writing.{fitting, left_by}
 use Rattle.plan.specs.declared.grant.Grant.{Grant}
@@ -30,16 +29,13 @@ use Rattle.coordinator.specs.Beacons.{state_of, beacon_in, configuration_for}
 -- whether a state is Online
 abbrev pub is_online : State → Bool
 is_online online = true
-is_online discovery = false
-is_online configuration = false
-is_online reset = false
+is_online state = false
 
 -- whether management frames are heard in a state
 abbrev pub is_managing : State → Bool
-is_managing online = false
 is_managing discovery = true
 is_managing configuration = true
-is_managing reset = false
+is_managing state = false
 
 -- whether a superframe with this number is open
 abbrev pub is_open : Inner → ℕ → Bool
@@ -68,16 +64,7 @@ abbrev pub mode_answer : Inner → Result (Unit {0}) Fault
 mode_answer s = cond s.opened (Err (fault refusal.Superframe 0)) (Ok tt)
 
 abbrev pub in_mode : Mode → Inner → Inner
-in_mode m s = record {
-  mode = m;
-  opened = s.opened;
-  number = s.number;
-  last = s.last;
-  gathered = s.gathered;
-  sent = s.sent;
-  records = s.records;
-  handed = s.handed;
-}
+in_mode m s = record s { mode = m }
 
 abbrev pub mode_state : Inner → Mode → Inner
 mode_state s m = cond s.opened s (in_mode m s)
@@ -103,16 +90,7 @@ abbrev pub open_memory : Numbers → Inner → List ℕ → List ℕ
 open_memory n s buffer = left_by (opening n s buffer) (beacon_of n s) buffer
 
 abbrev pub begun : Inner → Inner
-begun s = record {
-  mode = s.mode;
-  opened = true;
-  number = s.number;
-  last = s.last;
-  gathered = s.gathered;
-  sent = s.sent;
-  records = s.records;
-  handed = s.handed;
-}
+begun s = record s { opened = true }
 
 abbrev pub open_state : Numbers → Inner → List ℕ → Inner
 open_state n s buffer = cond (is_ok (opening n s buffer)) (begun s) s
@@ -159,16 +137,7 @@ gathering n t bitmap g = cond (for_retransmission n t) bitmap (marked_with n bit
 
 abbrev pub accepted : Numbers → Inner → ℕ → Option Grant → Inner
 accepted n s t None = s
-accepted n s t (Some g) = record {
-  mode = s.mode;
-  opened = s.opened;
-  number = s.number;
-  last = t;
-  gathered = gathering n t s.gathered g;
-  sent = s.sent;
-  records = s.records;
-  handed = s.handed;
-}
+accepted n s t (Some g) = record s { last = t; gathered = gathering n t s.gathered g }
 
 abbrev pub hear_state : {C : Type 0} → PlanMeaning → Inner → ℕ → Result (Heard C) Fault → Inner
 hear_state m s t r = cond (is_ok r) (accepted m.numbers s t (sending m s t)) s
@@ -188,13 +157,13 @@ abbrev pub with_record : List Record → ℕ → Record → List Record
 with_record rs i r = slice_set rs (i - 1) r
 
 abbrev pub as_seen : Record → Record
-as_seen r = record { seen = true; requested = r.requested; configured = r.configured }
+as_seen r = record r { seen = true }
 
 abbrev pub as_requested : Record → Record
-as_requested r = record { seen = r.seen; requested = true; configured = r.configured }
+as_requested r = record r { requested = true }
 
 abbrev pub as_configured : Record → Record
-as_configured r = record { seen = r.seen; requested = r.requested; configured = true }
+as_configured r = record r { configured = true }
 
 abbrev pub unwanted : Result Managed Fault
 unwanted = Err (fault refusal.Unwanted 0)
@@ -235,30 +204,23 @@ thanked s (Some i) = Ok (record {
 
 -- an acknowledgment, in Configuration or not
 abbrev pub acknowledging : Inner → Bool → Acknowledged → Result Managed Fault
-acknowledging s configuring acknowledged.Data = unwanted
-acknowledging s configuring acknowledged.DiscoverResponse = unwanted
 acknowledging s configuring acknowledged.ConfigurationRequest = cond configuring (thanked s s.handed) unwanted
+acknowledging s configuring a = unwanted
 
 -- a command, in Configuration or else in Discovery
 abbrev pub commanded : PlanMeaning → Inner → Bool → Command → Result Managed Fault
 commanded m s configuring (commands.DiscoverResponse a w) = cond configuring unwanted (discovered s (number_with m a))
 commanded m s configuring (commands.ConfigurationStatus a simple w first width) = cond configuring (requested m s a (number_with m a)) unwanted
-commanded m s configuring (commands.ConfigurationRequest a c) = unwanted
+commanded m s configuring c = unwanted
 
 abbrev pub managed_by : PlanMeaning → Inner → Bool → Message → Result Managed Fault
 managed_by m s configuring (command_frame c) = commanded m s configuring c
 managed_by m s configuring (acknowledgment_frame a) = acknowledging s configuring a
-managed_by m s configuring (data_frame p) = unwanted
-managed_by m s configuring (online_beacon h n b) = unwanted
-managed_by m s configuring (discovery_beacon h g) = unwanted
-managed_by m s configuring (configuration_beacon h g) = unwanted
-managed_by m s configuring (reset_beacon h) = unwanted
+managed_by m s configuring message = unwanted
 
 abbrev pub is_configuring : State → Bool
-is_configuring online = false
-is_configuring discovery = false
 is_configuring configuration = true
-is_configuring reset = false
+is_configuring state = false
 
 abbrev pub managed_as : PlanMeaning → Inner → Result Told Fault → Result Managed Fault
 managed_as m s (Ok t) = managed_by m s (is_configuring (state_of s.mode)) t.message
@@ -280,16 +242,7 @@ reply_memory (Ok x) buffer = left_by (fitting x.reply buffer) x.reply buffer
 reply_memory (Err f) buffer = buffer
 
 abbrev pub noted : Inner → Managed → Inner
-noted s x = record {
-  mode = s.mode;
-  opened = s.opened;
-  number = s.number;
-  last = s.last;
-  gathered = s.gathered;
-  sent = s.sent;
-  records = x.records;
-  handed = x.handed;
-}
+noted s x = record s { records = x.records; handed = x.handed }
 
 abbrev pub reply_state : Inner → Result Managed Fault → List ℕ → Inner
 reply_state s (Ok x) buffer = cond (is_ok (fitting x.reply buffer)) (noted s x) s
@@ -312,16 +265,7 @@ close_answer s k = cond (is_open s k) (Ok tt) (Err (fault refusal.Superframe 0, 
 
 -- the gathered bitmap becomes the one that is sent, and the superframe number goes up by one, from 4294967295 to 0
 abbrev pub ended : Inner → Inner
-ended s = record {
-  mode = s.mode;
-  opened = false;
-  number = (s.number + 1) % 2 ^ 32;
-  last = 0;
-  gathered = nothing_heard;
-  sent = s.gathered;
-  records = s.records;
-  handed = s.handed;
-}
+ended s = record s { opened = false; number = (s.number + 1) % 2 ^ 32; last = 0; gathered = nothing_heard; sent = s.gathered }
 
 abbrev pub close_state : Inner → ℕ → Inner
 close_state s k = cond (is_open s k) (ended s) s
