@@ -5,7 +5,7 @@ use Rattle.frame.specs.declared.faults.Refusal.TheVariants as refusal
 use Rattle.frame.specs.declared.frames.BeaconHeader.{BeaconHeader}
 use Rattle.frame.specs.declared.frames.Configuration.{Configuration}
 use Rattle.frame.specs.Formats.{Told, reading}
-use Rattle.frame.specs.Messages.{Message, online_beacon, discovery_beacon, configuration_beacon, reset_beacon, data_frame, acknowledgment_frame, command_frame}
+use Rattle.frame.specs.Messages.{Message, online_beacon, discovery_beacon, configuration_beacon, reset_beacon}
 use Rattle.frame.specs.Messages.{State, online, discovery, configuration, reset}
 use Rattle.frame.specs.Refusals.{fault}
 use Rattle.plan.specs.declared.grant.Grant.{Grant}
@@ -51,21 +51,15 @@ as_beacon (online_beacon h n bitmap) = Ok (record { state = online; header = h; 
 as_beacon (discovery_beacon h g) = Ok (plain discovery h)
 as_beacon (configuration_beacon h g) = Ok (plain configuration h)
 as_beacon (reset_beacon h) = Ok (plain reset h)
-as_beacon (data_frame p) = Err (fault refusal.Unwanted 0)
-as_beacon (acknowledgment_frame a) = Err (fault refusal.Unwanted 0)
-as_beacon (command_frame c) = Err (fault refusal.Unwanted 0)
+as_beacon m = Err (fault refusal.Unwanted 0)
 
 abbrev pub is_online : State → Bool
 is_online online = true
-is_online discovery = false
-is_online configuration = false
-is_online reset = false
+is_online s = false
 
 abbrev pub is_reset : State → Bool
-is_reset online = false
-is_reset discovery = false
-is_reset configuration = false
 is_reset reset = true
+is_reset s = false
 
 -- whether bits are zero from bit k on, `count` of them
 abbrev pub clear : List ℕ → ℕ → ℕ → Bool
