@@ -1,8 +1,8 @@
 -- The phases of a device, and how a beacon's state and a configuration decide the next one.
 use Rattle.std.specs.Prelude.{Bool, cond}
 use Rattle.frame.specs.Messages.{State, online, discovery, configuration, reset}
-use Rattle.device.specs.declared.state.Phase.{Phase}
-use Rattle.device.specs.declared.state.Phase.TheVariants as phase
+use Rattle.device.specs.declared.phase.Phase.{Phase}
+use Rattle.device.specs.declared.phase.Phase.TheVariants as phase
 
 -- an unconfigured device in Discovery: Idle and Asking become Answering, others stay
 abbrev pub answering : Phase → Phase

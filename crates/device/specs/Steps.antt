@@ -14,16 +14,17 @@ use Rattle.frame.specs.Messages.{Message, data_frame, acknowledgment_frame, comm
 use Rattle.frame.specs.Refusals.{fault}
 use Rattle.frame.specs.Writing.{fitting, left_by}
 use Rattle.plan.specs.Rules.{carried}
-use Rattle.device.specs.declared.state.Device.{Device}
-use Rattle.device.specs.declared.state.Fate.{Fate}
-use Rattle.device.specs.declared.state.Fate.TheVariants as fate
-use Rattle.device.specs.declared.state.News.{News}
-use Rattle.device.specs.declared.state.News.TheVariants as news
-use Rattle.device.specs.declared.state.Phase.{Phase}
-use Rattle.device.specs.declared.state.Phase.TheVariants as phase
-use Rattle.device.specs.declared.state.Repeat.{Repeat}
+use Rattle.device.specs.declared.device.Device.{Device}
+use Rattle.device.specs.declared.fate.Fate.{Fate}
+use Rattle.device.specs.declared.fate.Fate.TheVariants as fate
+use Rattle.device.specs.declared.news.News.{News}
+use Rattle.device.specs.declared.news.News.TheVariants as news
+use Rattle.device.specs.declared.phase.Phase.{Phase}
+use Rattle.device.specs.declared.phase.Phase.TheVariants as phase
+use Rattle.device.specs.declared.repeat.Repeat.{Repeat}
 use Rattle.device.specs.Phases.{next_phase, thanked}
-use Rattle.device.specs.Beacons.{Beacon, beacon_taken, is_online, is_reset, grant_in, keeps_rules}
+use Rattle.device.specs.Beacons.{Beacon, beacon_taken, is_online, is_reset}
+use Rattle.device.specs.Configurations.{grant_in, keeps_rules}
 use Rattle.device.specs.Fates.{fate_by, repeat_by}
 
 -- a device when it is made
@@ -133,6 +134,11 @@ abbrev pub fresh_turn : {C : Type 0} → (C → List ℕ) → Configuration → 
 fresh_turn image c None sent = silent
 fresh_turn image c (Some x) sent = cond (is_some sent || nat_lt (room_in c) (length (image x))) silent (fresh x)
 
+-- the turn of the cargo that waits
+abbrev pub waiting_turn : {C : Type 0} → (C → List ℕ) → Configuration → Device C → Turn C
+waiting_turn image c v = fresh_turn image c v.waiting v.sent
+
+-- a repeat is sent where it starts
 abbrev pub again_turn : {C : Type 0} → ℕ → Option (Repeat C) → Turn C
 again_turn t None = silent
 again_turn t (Some r) = cond (t == r.start) (again r.cargo) silent
@@ -141,7 +147,7 @@ abbrev pub turn_in : {C : Type 0} → (C → List ℕ) → Device C → Option C
 turn_in image v None t = silent
 turn_in image v (Some c) t =
     cond (not (is_on v.news)) silent
-    (cond (t == c.first) (fresh_turn image c v.waiting v.sent) (again_turn t v.repeat))
+    (cond (t == c.first) (waiting_turn image c v) (again_turn t v.repeat))
 
 abbrev pub turn : {C : Type 0} → (C → List ℕ) → Device C → ℕ → Turn C
 turn image v t = turn_in image v v.configuration t
@@ -157,6 +163,16 @@ after_turn v silent = v
 after_turn v (fresh x) = record v { waiting = None; sent = Some x }
 after_turn v (again x) = record v { repeat = None }
 
+-- what a turn answers, and the state and memory that it leaves
+abbrev pub turn_answer : {C : Type 0} → (C → List ℕ) → Turn C → List ℕ → Result ℕ Fault
+turn_answer image t buffer = fitting (frame_of image t) buffer
+
+abbrev pub turn_state : {C : Type 0} → Device C → Turn C → Result ℕ Fault → Device C
+turn_state v t r = cond (is_ok r) (after_turn v t) v
+
+abbrev pub turn_memory : {C : Type 0} → (C → List ℕ) → Turn C → Result ℕ Fault → List ℕ → List ℕ
+turn_memory image t r buffer = left_by r (frame_of image t) buffer
+
 -- whether there is no timeslot t: 0, or past the last one that a device knows of
 abbrev pub no_timeslot : Option Configuration → ℕ → Bool
 no_timeslot None t = t == 0
@@ -164,13 +180,13 @@ no_timeslot (Some c) t = t == 0 || nat_lt c.timeslots t
 
 abbrev pub send_answer : {C : Type 0} → (C → List ℕ) → Device C → ℕ → List ℕ → Result ℕ Fault
 send_answer image v t buffer =
-    cond (no_timeslot v.configuration t) (Err (fault refusal.Timeslot t)) (fitting (frame_of image (turn image v t)) buffer)
+    cond (no_timeslot v.configuration t) (Err (fault refusal.Timeslot t)) (turn_answer image (turn image v t) buffer)
 
 abbrev pub send_memory : {C : Type 0} → (C → List ℕ) → Device C → ℕ → List ℕ → List ℕ
-send_memory image v t buffer = left_by (send_answer image v t buffer) (frame_of image (turn image v t)) buffer
+send_memory image v t buffer = turn_memory image (turn image v t) (send_answer image v t buffer) buffer
 
 abbrev pub send_state : {C : Type 0} → (C → List ℕ) → Device C → ℕ → List ℕ → Device C
-send_state image v t buffer = cond (is_ok (send_answer image v t buffer)) (after_turn v (turn image v t)) v
+send_state image v t buffer = turn_state v (turn image v t) (send_answer image v t buffer)
 
 -- Writing for the uplink management timeslot.
 
@@ -211,6 +227,19 @@ write_state v buffer = cond (is_ok (write_answer v buffer)) (cond (is_missed v.n
 pub data Taken : Type 0 where
   acknowledgment : Taken
   configured : Configuration → Taken
+
+-- what the code's calls bring: no configuration is an acknowledgment
+abbrev pub taken_of : Option Configuration → Taken
+taken_of None = acknowledgment
+taken_of (Some c) = configured c
+
+abbrev pub taken_seen : Result (Option Configuration) Fault → Result Taken Fault
+taken_seen (Ok x) = Ok (taken_of x)
+taken_seen (Err f) = Err f
+
+abbrev pub configured_seen : Result Configuration Fault → Result Taken Fault
+configured_seen (Ok c) = Ok (configured c)
+configured_seen (Err f) = Err f
 
 abbrev pub unwanted : Result Taken Fault
 unwanted = Err (fault refusal.Unwanted 0)
