@@ -1,4 +1,4 @@
-pub mod Deciding
-pub mod Fitting
-pub mod Grounds
-pub mod Payloads
+pub mod TestsAgree
+pub mod BitmapTest
+pub mod FateGrounds
+pub mod CargoFrames

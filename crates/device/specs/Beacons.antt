@@ -1,39 +1,22 @@
 -- Beacons as a device takes them, against its configuration.
 use Rattle.std.specs.Prelude.{ℕ, zero, suc, ◌-◌, ◌*◌, Bool, true, false, cond, not, ◌&&◌, List, [], length, Some, None, Ok, Err, Option, Result, ◌==◌}
+use Rattle.std.specs.Option.{option_map}
 use Rattle.frame.specs.declared.faults.Fault.{Fault}
 use Rattle.frame.specs.declared.faults.Refusal.TheVariants as refusal
 use Rattle.frame.specs.declared.frames.BeaconHeader.{BeaconHeader}
+use Rattle.frame.specs.declared.frames.BeaconState.{BeaconState}
+use Rattle.frame.specs.declared.frames.BeaconState.TheVariants as states
 use Rattle.frame.specs.declared.frames.Configuration.{Configuration}
 use Rattle.frame.specs.Formats.{Told, reading}
-use Rattle.frame.specs.Messages.{Message, online_beacon, discovery_beacon, configuration_beacon, reset_beacon, data_frame, acknowledgment_frame, command_frame}
+use Rattle.frame.specs.Messages.{Message, online_beacon, discovery_beacon, configuration_beacon, reset_beacon}
 use Rattle.frame.specs.Messages.{State, online, discovery, configuration, reset}
 use Rattle.frame.specs.Refusals.{fault}
-use Rattle.plan.specs.declared.grant.Grant.{Grant}
 use Rattle.plan.specs.declared.grant.Numbers.{Numbers}
 use Rattle.plan.specs.Rules.{bitmap_octets}
-use Rattle.plan.specs.Verdicts.{numbers_kept, grant_kept}
+use Rattle.repeats.specs.declared.bitmap.GroupAcknowledgment.{GroupAcknowledgment}
 use Rattle.repeats.specs.Bitmaps.{bit}
-
--- the numbers of the slot plan that a configuration tells; the two that it does not tell are in range
-abbrev pub numbers_in : Configuration → Numbers
-numbers_in c = record {
-  timeslots = c.timeslots;
-  uplink = c.uplink;
-  retransmission = c.retransmission;
-  size = c.size;
-  management = 1;
-  coordinator = c.coordinator;
-  channel = c.channel;
-  sequence = 0;
-}
-
--- the grant that a configuration tells, of the device with a full address
-abbrev pub grant_in : ℕ → Configuration → Grant
-grant_in address c = record { address = address; simple = c.simple; first = c.first; width = c.width }
-
--- whether a configuration keeps the rules of slot plans
-abbrev pub keeps_rules : ℕ → Configuration → Bool
-keeps_rules address c = numbers_kept (numbers_in c) && grant_kept (numbers_in c) (grant_in address c)
+use Rattle.device.specs.declared.beacon.Beacon as code
+use Rattle.device.specs.Configurations.{numbers_in}
 
 -- what a beacon says; one that is not Online has no timeslots and no bitmap
 pub record Beacon : Type 0 where
@@ -45,27 +28,47 @@ pub record Beacon : Type 0 where
 abbrev pub plain : State → BeaconHeader → Beacon
 plain s h = record { state = s; header = h; timeslots = 0; bitmap = [] }
 
+-- the code's beacon, by what it says
+abbrev pub announcing : BeaconHeader → BeaconState → Beacon
+announcing h (states.Online n bitmap) = record { state = online; header = h; timeslots = n; bitmap = bitmap.octets.now }
+announcing h (states.Discovery g) = plain discovery h
+announcing h (states.Configuration g) = plain configuration h
+announcing h states.Reset = plain reset h
+
+abbrev pub heard : code.Beacon → Beacon
+heard b = announcing b.header b.state
+
+abbrev pub heard_in : Result code.Beacon Fault → Result Beacon Fault
+heard_in (Ok b) = Ok (heard b)
+heard_in (Err f) = Err f
+
 -- a message as a beacon
 abbrev pub as_beacon : Message → Result Beacon Fault
 as_beacon (online_beacon h n bitmap) = Ok (record { state = online; header = h; timeslots = n; bitmap = bitmap })
 as_beacon (discovery_beacon h g) = Ok (plain discovery h)
 as_beacon (configuration_beacon h g) = Ok (plain configuration h)
 as_beacon (reset_beacon h) = Ok (plain reset h)
-as_beacon (data_frame p) = Err (fault refusal.Unwanted 0)
-as_beacon (acknowledgment_frame a) = Err (fault refusal.Unwanted 0)
-as_beacon (command_frame c) = Err (fault refusal.Unwanted 0)
+as_beacon m = Err (fault refusal.Unwanted 0)
 
 abbrev pub is_online : State → Bool
 is_online online = true
-is_online discovery = false
-is_online configuration = false
-is_online reset = false
+is_online s = false
 
 abbrev pub is_reset : State → Bool
-is_reset online = false
-is_reset discovery = false
-is_reset configuration = false
 is_reset reset = true
+is_reset s = false
+
+-- a group acknowledgment's numbers and octets
+pub record Bits : Type 0 where
+  pub numbers : Numbers
+  pub octets : List ℕ
+
+abbrev pub bits_seen : Option GroupAcknowledgment → Option Bits
+bits_seen a = option_map (λ x. record { numbers = x.numbers; octets = x.octets.now }) a
+
+-- the group acknowledgment of a beacon, by the numbers of a configuration
+abbrev pub bits_by : Configuration → Beacon → Option Bits
+bits_by c b = cond (is_online b.state) (Some (record { numbers = numbers_in c; octets = b.bitmap })) None
 
 -- whether bits are zero from bit k on, `count` of them
 abbrev pub clear : List ℕ → ℕ → ℕ → Bool

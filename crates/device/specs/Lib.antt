@@ -1,6 +1,6 @@
+pub mod Devices
+pub mod Configurations
 pub mod Phases
 pub mod Beacons
 pub mod Fates
 pub mod Steps
-pub mod Views
-pub mod Turns

@@ -1,28 +1,20 @@
 -- The phases of a device, and how a beacon's state and a configuration decide the next one.
 use Rattle.std.specs.Prelude.{Bool, cond}
 use Rattle.frame.specs.Messages.{State, online, discovery, configuration, reset}
-use Rattle.device.specs.declared.state.Phase.{Phase}
-use Rattle.device.specs.declared.state.Phase.TheVariants as phase
+use Rattle.device.specs.declared.phase.Phase.{Phase}
+use Rattle.device.specs.declared.phase.Phase.TheVariants as phase
 
 -- an unconfigured device in Discovery: Idle and Asking become Answering, others stay
 abbrev pub answering : Phase → Phase
 answering phase.Idle = phase.Answering
-answering phase.Answering = phase.Answering
-answering phase.Known = phase.Known
 answering phase.Asking = phase.Answering
-answering phase.Thanking = phase.Thanking
-answering phase.Set = phase.Set
-answering phase.Running = phase.Running
+answering p = p
 
 -- in Configuration: Idle, Answering, Known and Running become Asking, others stay
 abbrev pub asking : Phase → Phase
-asking phase.Idle = phase.Asking
-asking phase.Answering = phase.Asking
-asking phase.Known = phase.Asking
-asking phase.Asking = phase.Asking
 asking phase.Thanking = phase.Thanking
 asking phase.Set = phase.Set
-asking phase.Running = phase.Asking
+asking p = phase.Asking
 
 -- the phase after a beacon of a state, for a device that is configured or not
 abbrev pub next_phase : State → Bool → Phase → Phase
@@ -33,10 +25,5 @@ next_phase reset configured p = phase.Idle
 
 -- a device that has acknowledged its configuration
 abbrev pub thanked : Phase → Phase
-thanked phase.Idle = phase.Idle
-thanked phase.Answering = phase.Answering
-thanked phase.Known = phase.Known
-thanked phase.Asking = phase.Asking
 thanked phase.Thanking = phase.Set
-thanked phase.Set = phase.Set
-thanked phase.Running = phase.Running
+thanked p = p

@@ -1,16 +1,17 @@
 // A device of a network in the low latency mode (LLDN) of IEEE 802.15.4.
 #![tactic(auto)]
 
-mod beacons;
-mod data;
-mod fates;
-mod hearing;
-mod making;
+mod beacon;
+mod device;
+mod fate;
+mod following;
 mod management;
-mod rules;
+mod member;
+mod news;
+mod phase;
+mod repeat;
 mod sending;
-mod state;
-#[cfg(test)]
-mod tests;
 
-pub use state::{Device, Fate, Phase};
+pub use device::Device;
+pub use fate::Fate;
+pub use phase::Phase;

@@ -1,11 +1,11 @@
-// Management: how a device makes itself known, and is configured.
+// The steps of a device that makes itself known and is configured: the management frames that it writes and takes.
 ghost use Rattle.std.specs.Prelude.{◌≡◌};
 ghost use Rattle.frame.specs.Writing.{fitting, left_by};
-ghost use Rattle.device.specs.Steps.{status, management_in, write_answer, write_state, write_memory, estranged, configuring, taking, take_answer, take_state};
-ghost use Rattle.device.specs.Views.{configured_seen, taken_seen};
+ghost use Rattle.device.specs.Steps.{status, management_in, estranged, configuring, taking, configured_seen, taken_seen};
 
-use crate::rules::Member;
-use crate::state::{Device, News, Phase};
+use crate::device::Device;
+use crate::member::Member;
+use crate::phase::Phase;
 use cargo::Cargo;
 use frame::{
     Acknowledged, Command, Configuration, Fault, Frame, Refusal, Wish, write_acknowledgment,
@@ -37,7 +37,7 @@ impl<C: Cargo + Drop> Device<C> {
     }
 
     // Writes the frame that belongs to the device's phase.
-    fn write_in_phase(&self, buffer: &mut [u8]) -> Result<usize, Fault>
+    pub(crate) fn write_in_phase(&self, buffer: &mut [u8]) -> Result<usize, Fault>
         ensures answer { result ≡ fitting (management_in self.now self.now.phase) buffer.old }
         ensures memory { buffer.new ≡ left_by result (management_in self.now self.now.phase) buffer.old }
     {
@@ -53,23 +53,6 @@ impl<C: Cargo + Drop> Device<C> {
             Phase::Thanking => write_acknowledgment(Acknowledged::ConfigurationRequest, buffer),
             _ => Ok(0),
         }
-    }
-
-    // Writes the device's frame for the uplink management timeslot into the buffer and answers its length, which is 0 where the
-    // device has nothing to say, as after a missed beacon. A configuration is acknowledged once.
-    pub fn write_management(&mut self, buffer: &mut [u8]) -> Result<usize, Fault>
-        ensures answer { result ≡ write_answer self.old buffer.old }
-        ensures state { self.new ≡ write_state self.old buffer.old }
-        ensures memory { buffer.new ≡ write_memory self.old buffer.old }
-    {
-        if self.news == News::Missed {
-            return Ok(0);
-        }
-        let written = self.write_in_phase(buffer)?;
-        if self.phase == Phase::Thanking {
-            self.phase = Phase::Set;
-        }
-        Ok(written)
     }
 
     // The configuration that a request to a full address brings.
@@ -90,7 +73,7 @@ impl<C: Cargo + Drop> Device<C> {
     }
 
     // What octets bring, by the device's phase: its configuration, or none with the acknowledgment of its answer to a discovery.
-    fn taking(&self, octets: &[u8]) -> Result<Option<Configuration>, Fault>
+    pub(crate) fn taking(&self, octets: &[u8]) -> Result<Option<Configuration>, Fault>
         ensures { taken_seen result ≡ taking self.now octets.now }
     {
         if !matches!(self.phase, Phase::Asking | Phase::Answering) {
@@ -116,21 +99,5 @@ impl<C: Cargo + Drop> Device<C> {
             ) => Ok(None),
             _ => Err(Refusal::Unwanted.at(0)),
         }
-    }
-
-    // Takes a management frame of the coordinator: the acknowledgment of the device's answer to a discovery, or its configuration.
-    // A device that waits for neither refuses with Mode, whatever the octets.
-    pub fn take(&mut self, octets: &[u8]) -> Result<(), Fault>
-        ensures answer { result ≡ take_answer self.old octets.now }
-        ensures state { self.new ≡ take_state self.old octets.now }
-    {
-        match self.taking(octets)? {
-            None => self.phase = Phase::Known,
-            Some(configuration) => {
-                self.configuration = Some(configuration);
-                self.phase = Phase::Thanking;
-            }
-        }
-        Ok(())
     }
 }

@@ -1,5 +1,5 @@
 use Rattle.std.proofs.Common.{◌≡◌, take}
-use Rattle.device.proofs.Payloads.{start_written, answered, remembered}
+use Rattle.device.proofs.CargoFrames.{start_written, answered, remembered}
 use Rattle.device.proofs.sending.write_cargo.Goals as goal
 
 pub returns : goal.returns

@@ -1,8 +1,8 @@
 use Rattle.std.proofs.Common.{◌≡◌, Ok, rules}
 use Rattle.device.specs.Beacons.{beacon_taken}
 use Rattle.device.specs.Steps.{beacon_answer}
-use Rattle.device.proofs.Grounds.{grounded}
-use Rattle.device.proofs.state.Device.beacon.Goals as goal
+use Rattle.device.proofs.FateGrounds.{grounded}
+use Rattle.device.proofs.device.Device.beacon.Goals as goal
 
 pub returns-clause-grounds : goal.returns-clause-grounds
 returns-clause-grounds g c =

@@ -1,7 +1,7 @@
 use Rattle.std.proofs.Common.{arith}
 use Rattle.std.proofs.lemmas.Grind.{common_steps}
-use Rattle.device.proofs.Deciding.{numbers_tested, grant_tested}
-use Rattle.device.proofs.rules.Member.keeps_rules.Goals as goal
+use Rattle.device.proofs.TestsAgree.{numbers_tested, grant_tested}
+use Rattle.device.proofs.member.Member.keeps_rules.Goals as goal
 
 pub returns-then-keep : goal.returns-then-keep
 returns-then-keep c =

@@ -6,7 +6,7 @@ use Rattle.plan.specs.Rules.{bitmap_octets}
 use Rattle.repeats.specs.Bitmaps.{bit, Fits}
 use Rattle.repeats.proofs.Marking.{bit_past}
 use Rattle.device.specs.Beacons.{clear, bitmap_fits}
-use Rattle.device.proofs.Deciding.{decides_alike}
+use Rattle.device.proofs.TestsAgree.{decides_alike}
 
 -- bits that are tested clear are zero
 cleared : (xs : List ℕ) (k count j : ℕ) → clear xs k count ≡ true → k ≤ j → j < k + count → bit xs j ≡ 0

@@ -1,12 +1,13 @@
-// A configuration in the words of slot plans and group acknowledgments.
+// A configured device, and its configuration in the words of slot plans and group acknowledgments.
 ghost use Rattle.std.specs.Prelude.{◌≡◌};
-ghost use Rattle.device.specs.Beacons.{numbers_in, grant_in, keeps_rules};
+ghost use Rattle.device.specs.Beacons.{heard, bits_seen, bits_by};
+ghost use Rattle.device.specs.Configurations.{numbers_in, grant_in, keeps_rules};
+ghost use Rattle.device.specs.Fates.{fate_by, repeat_by};
 ghost use Rattle.device.specs.Steps.{room_in};
-ghost use Rattle.device.specs.Views.{member_in};
 
-use crate::state::Device;
-use cargo::Cargo;
-use frame::Configuration;
+use crate::beacon::Beacon;
+use crate::fate::Fate;
+use frame::{BeaconState, Configuration};
 use plan::{Grant, Numbers};
 use repeats::GroupAcknowledgment;
 
@@ -19,7 +20,7 @@ pub(crate) struct Member {
 
 impl Member {
     // The grant.
-    pub(crate) fn grant(self) -> Grant
+    fn grant(self) -> Grant
         ensures { result ≡ grant_in self.address self.configuration }
     {
         Grant {
@@ -44,22 +45,42 @@ impl Member {
         let numbers = numbers_in(self.configuration);
         numbers.keep() && self.grant().keeps(numbers)
     }
-}
 
-impl<C: Cargo + Drop> Device<C> {
-    // The device as one that is configured, if it is.
-    pub(crate) fn member(&self) -> Option<Member>
-        ensures { result ≡ member_in self.now.address self.now.configuration }
+    // The group acknowledgment of a beacon, which only an Online one has.
+    fn acknowledgment(self, beacon: Beacon<'_>) -> Option<GroupAcknowledgment<'_>>
+        ensures { bits_seen result ≡ bits_by self.configuration (heard beacon.entry) }
     {
-        self.configuration.map(|configuration| Member {
-            address: self.address,
-            configuration,
-        })
+        match beacon.state {
+            BeaconState::Online { bitmap, .. } => {
+                Some(acknowledgment_in(self.configuration, bitmap.octets))
+            }
+            _ => None,
+        }
+    }
+
+    // The first timeslot of the repeat that a beacon gives, or none.
+    pub(crate) fn repeat_by(self, beacon: Beacon<'_>) -> Option<u8>
+        ensures { result ≡ repeat_by self.address self.configuration (heard beacon.entry) }
+    {
+        self.acknowledgment(beacon)?.repeat_start(self.grant())
+    }
+
+    // The fate of cargo that was sent in the superframe before.
+    pub(crate) fn fate_by(self, beacon: Beacon<'_>) -> Fate
+        ensures { result ≡ fate_by self.address self.configuration (heard beacon.entry) }
+    {
+        let Some(acknowledgment) = self.acknowledgment(beacon) else {
+            return Fate::Unknown;
+        };
+        if acknowledgment.is_set(self.configuration.first) {
+            Fate::Confirmed
+        } else {
+            Fate::by_room(acknowledgment.repeat_start(self.grant()))
+        }
     }
 }
 
 // The numbers that a configuration tells; the two that it does not tell are in range.
-// A From cannot stand here: both types are of other crates.
 fn numbers_in(configuration: Configuration) -> Numbers
     ensures { result ≡ numbers_in configuration }
 {
