@@ -6,7 +6,7 @@ use Rattle.device.specs.declared.state.Device.{Device}
 use Rattle.device.specs.declared.state.Fate.{Fate}
 use Rattle.device.specs.declared.state.Fate.TheVariants as fate
 use Rattle.plan.specs.Rules.{PlanMeaning}
-use Rattle.repeats.specs.Starts.{for_retransmission}
+use Rattle.repeats.specs.BitAndRepeatTimeslots.{for_retransmission}
 use Rattle.network.specs.Deeds.{Deed, hand_up}
 use Rattle.network.specs.History.{numbered, Among, Sending, Telling, Arrival, Learning, sendings, told, learnings, is_own, own_sendings, arrivals}
 use Rattle.network.specs.Runs.{Devices}

@@ -5,7 +5,7 @@ use Rattle.std.specs.List.{cons_option}
 use Rattle.std.proofs.lemmas.Bool.{cases_eq, eq-eqb, ne_eqb}
 use Rattle.plan.specs.declared.grant.Grant.{Grant}
 use Rattle.plan.specs.Rules.{PlanMeaning, Rules}
-use Rattle.repeats.specs.Starts.{for_retransmission}
+use Rattle.repeats.specs.BitAndRepeatTimeslots.{for_retransmission}
 use Rattle.coordinator.specs.declared.state.Inner.{Inner}
 use Rattle.device.specs.declared.state.Device.{Device}
 use Rattle.device.specs.declared.state.Fate.{Fate}

@@ -4,7 +4,8 @@ use lib.ListN.{length-map}
 use Rattle.std.proofs.lemmas.Bool.{both_ways, cases_eq, eq-eqb, ne_eqb, le-ltb}
 use Rattle.plan.specs.declared.grant.Grant.{Grant}
 use Rattle.plan.specs.Rules.{PlanMeaning, Rules}
-use Rattle.repeats.specs.Starts.{repeat_start, for_retransmission}
+use Rattle.repeats.specs.BitAndRepeatTimeslots.{for_retransmission}
+use Rattle.repeats.specs.Starts.{repeat_start}
 use Rattle.coordinator.specs.declared.state.Inner.{Inner}
 use Rattle.device.specs.declared.state.Device.{Device}
 use Rattle.device.specs.declared.state.Fate.{Fate}

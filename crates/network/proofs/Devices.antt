@@ -15,7 +15,8 @@ use Rattle.plan.specs.declared.grant.Grant.{Grant}
 use Rattle.plan.specs.declared.grant.Numbers.{Numbers}
 use Rattle.plan.specs.Rules.{PlanMeaning, Rules, grant_at}
 use Rattle.plan.proofs.Lawful.{addresses_differ, grant_keeps, grant_within}
-use Rattle.repeats.specs.Starts.{repeat_start, for_retransmission}
+use Rattle.repeats.specs.BitAndRepeatTimeslots.{for_retransmission}
+use Rattle.repeats.specs.Starts.{repeat_start}
 use Rattle.network.proofs.FramesAreOwnOrRepeats.{own_is_no_repeat, repeats_are_for_retransmission}
 use Rattle.coordinator.specs.declared.state.Inner.{Inner}
 use Rattle.coordinator.specs.Beacons.{configuration_for}

@@ -7,7 +7,8 @@ use Rattle.plan.specs.Rules.{PlanMeaning, Rules, grant_at}
 use Rattle.plan.specs.Answers.{number_with}
 use Rattle.plan.proofs.Lawful.{grant_within, names_addressed, addresses_differ}
 use Rattle.repeats.specs.Bitmaps.{acknowledged, marked_with}
-use Rattle.repeats.specs.Starts.{repeat_start, for_retransmission, sender_at}
+use Rattle.repeats.specs.BitAndRepeatTimeslots.{for_retransmission}
+use Rattle.repeats.specs.Starts.{repeat_start, sender_at}
 use Rattle.repeats.specs.Laws.{BitsAlike}
 use Rattle.repeats.proofs.Serving.{names_sender}
 use Rattle.repeats.proofs.Starting.{started}

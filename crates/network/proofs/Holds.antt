@@ -6,7 +6,7 @@ use Rattle.frame.specs.declared.faults.Fault.{Fault}
 use Rattle.plan.specs.declared.grant.Grant.{Grant}
 use Rattle.plan.specs.Rules.{PlanMeaning, Rules, grant_at}
 use Rattle.plan.proofs.Lawful.{addresses_differ, names_addressed}
-use Rattle.repeats.specs.Starts.{for_retransmission}
+use Rattle.repeats.specs.BitAndRepeatTimeslots.{for_retransmission}
 use Rattle.cargo.specs.Images.{Apart}
 use Rattle.cargo.specs.Passing.{Receives}
 use Rattle.coordinator.specs.declared.state.Heard.{Heard}

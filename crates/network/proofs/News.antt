@@ -13,6 +13,7 @@ use Rattle.plan.specs.declared.grant.Grant.{Grant}
 use Rattle.plan.specs.declared.grant.Numbers.{Numbers}
 use Rattle.plan.specs.Rules.{PlanMeaning, Rules, NumbersKeep, grant_at, bitmap_octets}
 use Rattle.plan.proofs.Lawful.{grant_within}
+use Rattle.repeats.specs.BitAndRepeatTimeslots.{before_bits}
 use Rattle.repeats.specs.Bitmaps.{acknowledged}
 use Rattle.repeats.specs.Bitmaps as bitmaps
 use Rattle.repeats.specs.Starts.{repeat_start, may_repeat}
@@ -201,7 +202,7 @@ repeat_in n g xs = refl
 
 -- a repeat is given only where the bit is zero
 zero_bit : (n : Numbers) (xs : List ℕ) (g : Grant) (s : ℕ) → repeat_start n xs g ≡ Some s → acknowledged n xs g.first ≡ false
-zero_bit n xs g s h = not-true _ (and_parts (ltb n.retransmission g.first) (not (acknowledged n xs g.first)) (and_parts (may_repeat n g) (bitmaps.missed n xs g.first) (started n xs g s h).0).1).1
+zero_bit n xs g s h = not-true _ (and_parts (ltb (before_bits n) g.first) (not (acknowledged n xs g.first)) (and_parts (may_repeat n g) (bitmaps.missed n xs g.first) (started n xs g s h).0).1).1
 
 -- a repeat is of the cargo, at the start
 repeat_is : {C : Type 0} (o : Option ℕ) (x : C) (r : Repeat C) → device.to_repeat o x ≡ Some r → (o ≡ Some r.start) × (r.cargo ≡ x)

@@ -7,7 +7,8 @@ use Rattle.frame.specs.Writing.{fitting}
 use Rattle.plan.specs.declared.grant.Grant.{Grant}
 use Rattle.plan.specs.declared.grant.Numbers.{Numbers}
 use Rattle.plan.specs.Rules.{PlanMeaning}
-use Rattle.repeats.specs.Bitmaps.{place, acknowledged, nothing_heard}
+use Rattle.repeats.specs.BitAndRepeatTimeslots.{place}
+use Rattle.repeats.specs.Bitmaps.{acknowledged, nothing_heard}
 use Rattle.repeats.proofs.Alike.{zero_bit}
 use Rattle.coordinator.specs.declared.state.Inner.{Inner}
 use Rattle.coordinator.specs.declared.state.Mode.{Mode}

@@ -8,7 +8,8 @@ use Rattle.plan.proofs.Lawful.{grant_within, at_most_one_holder}
 use Rattle.repeats.specs.Starts.{repeat_start}
 use Rattle.repeats.specs.Laws.{BitsAlike}
 use Rattle.repeats.proofs.Serving.{apart}
-use Rattle.network.proofs.FramesAreOwnOrRepeats.{own_timeslot, repeated_timeslot}
+use Rattle.repeats.proofs.BitsAndRepeatsLieApart.{own_is_not_for_retransmission}
+use Rattle.repeats.proofs.RepeatsAreForRetransmission.{repeat_is_for_retransmission}
 use Rattle.coordinator.specs.declared.state.Inner.{Inner}
 use Rattle.device.specs.declared.state.Device.{Device}
 use Rattle.network.specs.Deeds.{Deed, hand_up, transmission}
@@ -42,9 +43,9 @@ module _ (m : PlanMeaning) (rules : Rules m) (sent : List ℕ) (alike : BitsAlik
   one_grant i j g h here there s u t (inl a) (inl b) low high low2 high2 =
       at_most_one_holder m rules t i j g h here there (omega arith, omega arith) (omega arith, omega arith)
   one_grant i j g h here there s u t (inl a) (inr b) low high low2 high2 =
-      absurd (both_ways _ (own_timeslot m rules i g here t (omega arith, omega arith)) (repeated_timeslot m rules j h there sent t (u, b, low2, high2)))
+      absurd (both_ways _ (own_is_not_for_retransmission m rules i g here t (omega arith, omega arith)) (repeat_is_for_retransmission m.numbers sent h t (u, b, low2, high2)))
   one_grant i j g h here there s u t (inr a) (inl b) low high low2 high2 =
-      absurd (both_ways _ (own_timeslot m rules j h there t (omega arith, omega arith)) (repeated_timeslot m rules i g here sent t (s, a, low, high)))
+      absurd (both_ways _ (own_is_not_for_retransmission m rules j h there t (omega arith, omega arith)) (repeat_is_for_retransmission m.numbers sent g t (s, a, low, high)))
   one_grant i j g h here there s u t (inr a) (inr b) low high low2 high2 =
       apart m sent rules alike t i j g h here there (s, a, low, high) (u, b, low2, high2)
 

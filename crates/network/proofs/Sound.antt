@@ -8,7 +8,8 @@ use Rattle.plan.specs.declared.grant.Grant.{Grant}
 use Rattle.plan.specs.declared.grant.Numbers.{Numbers}
 use Rattle.plan.specs.Rules.{PlanMeaning, grant_at}
 use Rattle.repeats.specs.Bitmaps.{acknowledged, nothing_heard}
-use Rattle.repeats.specs.Starts.{repeat_start, for_retransmission}
+use Rattle.repeats.specs.BitAndRepeatTimeslots.{for_retransmission}
+use Rattle.repeats.specs.Starts.{repeat_start}
 use Rattle.repeats.specs.Laws.{BitsAlike}
 use Rattle.coordinator.specs.declared.state.Inner.{Inner}
 use Rattle.coordinator.specs.Beacons.{configuration_for}

@@ -19,10 +19,12 @@ use Rattle.plan.specs.Rules.{PlanMeaning, Rules, grant_at, carried}
 use Rattle.plan.specs.Answers.{holding, number_with}
 use Rattle.plan.specs.Decisions.{held_now, held_later, held_before}
 use Rattle.plan.proofs.Lawful.{disjoint, grant_within, names_addressed}
-use Rattle.repeats.specs.Bitmaps.{bit, place, acknowledged, nothing_heard, marked_with}
-use Rattle.repeats.specs.Starts.{for_retransmission, sender_at}
+use Rattle.repeats.specs.BitAndRepeatTimeslots.{before_bits, place, timeslot_with, for_retransmission}
+use Rattle.repeats.specs.Bitmaps.{bit, acknowledged, nothing_heard, marked_with}
+use Rattle.repeats.specs.Starts.{sender_at}
 use Rattle.repeats.specs.Laws.{BitsAlike}
 use Rattle.repeats.proofs.Alike.{always_alike, stays_alike}
+use Rattle.repeats.proofs.BitsAndRepeatsLieApart.{own_has_bit}
 use Rattle.repeats.proofs.Marking.{length-with_timeslots, marks}
 use Rattle.cargo.specs.Passing.{Receives}
 use Rattle.coordinator.specs.declared.state.Heard.{Heard}
@@ -50,9 +52,9 @@ either a false x e = rw e refl
 
 -- what is acknowledged in a marked bitmap: what the grant holds, and what was before
 module _ (n : Numbers) (xs : List ℕ) (g : Grant) (len : length xs ≡ 32) where
-  acknowledged_then : (t : ℕ) → n.retransmission < t → place n t < 256 → acknowledged n (marked_with n xs g) t ≡ (holding t g || acknowledged n xs t)
+  acknowledged_then : (t : ℕ) → before_bits n < t → place n t < 256 → acknowledged n (marked_with n xs g) t ≡ (holding t g || acknowledged n xs t)
   acknowledged_then t above fit =
-      let there : n.retransmission + 1 + place n t ≡ t = omega arith in
+      let there : timeslot_with n (place n t) ≡ t = omega arith in
       let r = lt-ltb _ _ above in
       let ys : List ℕ = marked_with n xs g in
       let e : eqb (bit ys (place n t)) 1 ≡ (holding t g || eqb (bit xs (place n t)) 1) =
@@ -66,7 +68,7 @@ module _ (m : PlanMeaning) (rules : Rules m) where
   marked_own i g xs at len =
       let w = grant_within m rules i g at in
       let few = rules.framed.numbers.timeslots in
-      acknowledged_then m.numbers xs g len g.first (omega arith) (omega arith)
+      acknowledged_then m.numbers xs g len g.first (own_has_bit m rules i g at g.first (omega arith, omega arith)) (omega arith)
       ∙ ap (λ (b : Bool). b || acknowledged m.numbers xs g.first) (held_now g.first g (omega arith, omega arith))
 
   pub marked_other : (i j : ℕ) (g h : Grant) (xs : List ℕ) → grant_at m i ≡ Some g → grant_at m j ≡ Some h → (i ≡ j → ⊥) → length xs ≡ 32 → acknowledged m.numbers (marked_with m.numbers xs g) h.first ≡ acknowledged m.numbers xs h.first
@@ -78,7 +80,7 @@ module _ (m : PlanMeaning) (rules : Rules m) where
         | inl e ↦ held_before h.first g e
         | inr e ↦ held_later h.first g (omega arith)
       ] in
-      acknowledged_then m.numbers xs g len h.first (omega arith) (omega arith)
+      acknowledged_then m.numbers xs g len h.first (own_has_bit m rules j h there h.first (omega arith, omega arith)) (omega arith)
       ∙ ap (λ (b : Bool). b || acknowledged m.numbers xs h.first) not_held
 
   pub marked_alike : (i : ℕ) (g : Grant) (xs : List ℕ) → grant_at m i ≡ Some g → length xs ≡ 32 → BitsAlike m xs → BitsAlike m (marked_with m.numbers xs g)

@@ -7,7 +7,7 @@ use Rattle.plan.specs.Rules.{PlanMeaning}
 use Rattle.plan.specs.Answers.{number_with}
 use Rattle.device.specs.declared.state.Device.{Device}
 use Rattle.device.specs.declared.state.Fate.TheVariants as fate
-use Rattle.repeats.specs.Starts.{for_retransmission}
+use Rattle.repeats.specs.BitAndRepeatTimeslots.{for_retransmission}
 use Rattle.coordinator.specs.Steps.{granted}
 use Rattle.network.specs.Calls.{Call}
 use Rattle.network.specs.Deeds.{Deed}
