@@ -15,7 +15,8 @@ use Rattle.plan.specs.declared.grant.Numbers.{Numbers}
 use Rattle.plan.specs.Rules.{PlanMeaning, count_of, grant_at, carried}
 use Rattle.plan.specs.Answers.{number_with}
 use Rattle.repeats.specs.Bitmaps.{nothing_heard, marked_with}
-use Rattle.repeats.specs.Starts.{for_retransmission, sender_at}
+use Rattle.repeats.specs.BitAndRepeatTimeslots.{for_retransmission}
+use Rattle.repeats.specs.Starts.{sender_at}
 use Rattle.cargo.specs.Passing.{Receives}
 use Rattle.coordinator.specs.declared.state.Heard.{Heard}
 use Rattle.coordinator.specs.declared.state.Mode.{Mode}

@@ -58,7 +58,7 @@ impl<P: SlotPlan> Coordinator<P> {
     {
         let numbers = self.plan.numbers();
         self.inner.last = t;
-        if t > numbers.retransmission {
+        if !repeats::is_for_retransmission(numbers, t) {
             self.inner.gathered = repeats::marked(self.inner.gathered, numbers, grant);
         }
     }

@@ -1,5 +1,5 @@
 -- A told fate has its grounds.
-use Rattle.std.proofs.Common.{◌≡◌, ℕ, Bool, true, false, cond, not, ltb, List, is_some, Some, None, Ok, Option, Result, sym, refl, ap, ◌∙◌}
+use Rattle.std.proofs.Common.{◌≡◌, ℕ, Bool, true, false, cond, not, List, is_some, Some, None, Ok, Option, Result, sym, refl, ap, ◌∙◌}
 use Rattle.std.proofs.lemmas.Bool.{and_right}
 use Rattle.frame.specs.declared.faults.Fault.{Fault}
 use Rattle.frame.specs.declared.frames.BeaconHeader.{BeaconHeader}
@@ -7,6 +7,7 @@ use Rattle.frame.specs.declared.frames.Configuration.{Configuration}
 use Rattle.frame.specs.Messages.{State, online, discovery, configuration, reset}
 use Rattle.plan.specs.declared.grant.Grant.{Grant}
 use Rattle.plan.specs.declared.grant.Numbers.{Numbers}
+use Rattle.repeats.specs.BitAndRepeatTimeslots.{has_bit}
 use Rattle.repeats.specs.Bitmaps.{acknowledged}
 use Rattle.repeats.specs.Starts.{may_repeat, repeat_start}
 use Rattle.repeats.proofs.Starting.{unwanted}
@@ -20,7 +21,7 @@ use Rattle.device.specs.Steps.{told_by, beacon_answer_by}
 
 -- what is acknowledged is not repeated
 pub no_repeat : (n : Numbers) (xs : List ℕ) (g : Grant) → acknowledged n xs g.first ≡ true → repeat_start n xs g ≡ None
-no_repeat n xs g e = unwanted n xs g (and_right (may_repeat n g) _ (and_right (ltb n.retransmission g.first) _ (ap not e)))
+no_repeat n xs g e = unwanted n xs g (and_right (may_repeat n g) _ (and_right (has_bit n g.first) _ (ap not e)))
 
 -- an Online beacon's fate, by the bit and the room
 by_bit : (bit : Bool) (start : Option ℕ) → (bit ≡ true → start ≡ None)

@@ -3,6 +3,7 @@ use Rattle.std.proofs.Common.{ℕ, List, [], ◌∷◌, Ok, Err, refl, ap, arith
 use Rattle.frame.specs.declared.faults.Fault.{Fault}
 use Rattle.frame.specs.declared.faults.Refusal.TheVariants as refusal
 use Rattle.frame.specs.Refusals.{fault}
+use Rattle.repeats.specs.BitAndRepeatTimeslots.{before_bits, before_repeats}
 use Rattle.repeats.specs.Starts.{repeat_start}
 use Rattle.cargo.specs.Panels.{ImagesNone}
 use Rattle.cargo.specs.PanelsLemmas.{not_unused}
@@ -23,7 +24,7 @@ infixr 20 ◌and◌
 ◌and◌ a b = (a, b)
 
 pub all_hold : KnownCasesHold
-unfolding repeat_start
+unfolding before_bits before_repeats repeat_start
 all_hold =
     refl and refl and refl and refl and refl and refl and refl and refl and refl and refl and refl and refl and refl and refl and refl
     and (refl, (refl, refl)) and refl and refl and (ten_bits, only (9 ∷ 1 ∷ 3 ∷ []) ten_bits, (refl, refl)) and tt
