@@ -7,9 +7,9 @@ use Rattle.plan.specs.declared.grant.Grant.{Grant}
 use Rattle.plan.specs.Rules.{PlanMeaning, Rules}
 use Rattle.repeats.specs.BitAndRepeatTimeslots.{for_retransmission}
 use Rattle.coordinator.specs.declared.state.Inner.{Inner}
-use Rattle.device.specs.declared.state.Device.{Device}
-use Rattle.device.specs.declared.state.Fate.{Fate}
-use Rattle.device.specs.declared.state.Fate.TheVariants as fate
+use Rattle.device.specs.declared.device.Device.{Device}
+use Rattle.device.specs.declared.fate.Fate.{Fate}
+use Rattle.device.specs.declared.fate.Fate.TheVariants as fate
 use Rattle.network.specs.Deeds.{Deed, news, acceptance, transmission}
 use Rattle.network.specs.History.{numbered, Sending, Telling, Repetition, superframes, announced, learned, sendings, accepted, told, is_own, own_sendings, own_frames, repeated}
 use Rattle.network.specs.Guarantee.{grant_of, OwnFramesCarryTheirAcceptances, RepeatsCarryWhatWasToldRepeated}

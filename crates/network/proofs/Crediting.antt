@@ -7,8 +7,8 @@ use Rattle.plan.specs.Rules.{PlanMeaning, Rules}
 use Rattle.repeats.specs.BitAndRepeatTimeslots.{for_retransmission}
 use Rattle.repeats.specs.Starts.{repeat_start}
 use Rattle.coordinator.specs.declared.state.Inner.{Inner}
-use Rattle.device.specs.declared.state.Device.{Device}
-use Rattle.device.specs.declared.state.Fate.{Fate}
+use Rattle.device.specs.declared.device.Device.{Device}
+use Rattle.device.specs.declared.fate.Fate.{Fate}
 use Rattle.network.specs.Deeds.{Deed, opening, hand_up, news, transmission}
 use Rattle.network.specs.History.{numbered, Among, Sending, Telling, Arrival, Frame, frame_at, before, is_under, superframes, announced, learned, sendings, told, own_sendings, repeated, arrivals, frames}
 use Rattle.network.specs.Guarantee.{grant_of, simple_of, EveryArrivalIsOfAFrameOfItsDevice, OwnFramesStartWithTheGrant, OneOwnFrameAndOneRepeatASuperframe, RepeatsComeWithTheirFate}

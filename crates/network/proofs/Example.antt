@@ -9,6 +9,7 @@ use Rattle.plan.specs.Judged.{lawful}
 use Rattle.cargo.specs.declared.reading.Reading.{Reading}
 use Rattle.cargo.specs.Readings.{image_of}
 use Rattle.cargo.specs.Complements.{same_reading}
+use Rattle.repeats.specs.BitAndRepeatTimeslots.{before_bits, before_repeats}
 use Rattle.repeats.specs.Starts.{repeat_start, repeater_at, beginner_at, sender_at}
 use Rattle.device.specs.Beacons.{bitmap_fits}
 use Rattle.network.specs.Runs.{Different, Run}
@@ -32,7 +33,7 @@ both (suc (suc d)) p = absurd (omega arith)
 
 -- what the calls compute with
 computing : Unit {0}
-unfolding number_with numbers_kept grant_kept bitmap_fits repeat_start repeater_at beginner_at sender_at
+unfolding number_with numbers_kept grant_kept bitmap_fits before_bits before_repeats repeat_start repeater_at beginner_at sender_at
 computing = tt
 
 -- The run, superframe by superframe. Of each call, from the oldest on: its answer, that its device is there, and the rules of the network.

@@ -7,6 +7,7 @@ use Rattle.plan.specs.Rules.{PlanMeaning, Rules, grant_at}
 use Rattle.plan.specs.Answers.{number_with}
 use Rattle.plan.proofs.Lawful.{grant_within, names_addressed, addresses_differ}
 use Rattle.repeats.specs.Bitmaps.{acknowledged, marked_with}
+use Rattle.repeats.specs.BitAndRepeatTimeslots as offsets
 use Rattle.repeats.specs.BitAndRepeatTimeslots.{for_retransmission}
 use Rattle.repeats.specs.Starts.{repeat_start, sender_at}
 use Rattle.repeats.specs.Laws.{BitsAlike}
@@ -17,7 +18,7 @@ use Rattle.cargo.specs.Passing.{Receives}
 use Rattle.cargo.proofs.Deliveries.{delivered}
 use Rattle.coordinator.specs.declared.state.Inner.{Inner}
 use Rattle.coordinator.specs.Steps.{granted, sending, gathering}
-use Rattle.device.specs.declared.state.Device.{Device}
+use Rattle.device.specs.declared.device.Device.{Device}
 use Rattle.network.specs.Deeds.{Deed, hand_up}
 use Rattle.network.specs.History as history
 use Rattle.network.specs.History.{Among, Sending, superframes, learned, sendings}
@@ -111,18 +112,20 @@ module _ {C : Type 0} (image : C → List ℕ) (m : PlanMeaning) (rules : Rules 
 
     -- a repeat, which sets no bit; it comes before what is sent in the device's own timeslot
     module _ (x : C) (q : ToRepeat image m.numbers g sent t x s.book) (spent : v.repeat ≡ None) (once : q.top.again ≡ true → t ≤ last) where
-      in_range : (t ≤ m.numbers.retransmission) × (m.numbers.retransmission < g.first)
-      in_range =
+      -- a repeat comes before what its sender sends in its own timeslot
+      comes_before : t < g.first
+      unfolding offsets.before_bits offsets.before_repeats
+      comes_before =
           let w = grant_within m rules i g at in
           let u = started m.numbers sent g t q.starts in
-          (omega arith, omega arith)
+          omega arith
 
       low : for_retransmission m.numbers t ≡ true
       low = repeats_are_for_retransmission m rules i g at sent t q.starts
 
       bit_zero : (b : Bool) → acknowledged m.numbers gathered g.first ≡ b → b ≡ false
       bit_zero false e = refl
-      bit_zero true e = let late = s.late is_open aware e in let w = in_range in absurd (omega arith)
+      bit_zero true e = let late = s.late is_open aware e in let w = comes_before in absurd (omega arith)
 
       not_yet : (b : Bool) → q.top.again ≡ b → b ≡ false
       not_yet false e = refl

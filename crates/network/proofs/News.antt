@@ -13,7 +13,7 @@ use Rattle.plan.specs.declared.grant.Grant.{Grant}
 use Rattle.plan.specs.declared.grant.Numbers.{Numbers}
 use Rattle.plan.specs.Rules.{PlanMeaning, Rules, NumbersKeep, grant_at, bitmap_octets}
 use Rattle.plan.proofs.Lawful.{grant_within}
-use Rattle.repeats.specs.BitAndRepeatTimeslots.{before_bits}
+use Rattle.repeats.specs.BitAndRepeatTimeslots.{before_bits, before_repeats}
 use Rattle.repeats.specs.Bitmaps.{acknowledged}
 use Rattle.repeats.specs.Bitmaps as bitmaps
 use Rattle.repeats.specs.Starts.{repeat_start, may_repeat}
@@ -22,14 +22,15 @@ use Rattle.repeats.proofs.Starting.{started}
 use Rattle.coordinator.specs.declared.state.Inner.{Inner}
 use Rattle.coordinator.specs.Beacons.{configuration_for, header_of, beacon_in, state_of}
 use Rattle.coordinator.specs.Steps.{beacon_of}
-use Rattle.device.specs.declared.state.Device.{Device}
-use Rattle.device.specs.declared.state.Fate.{Fate}
-use Rattle.device.specs.declared.state.Fate.TheVariants as fate
-use Rattle.device.specs.declared.state.News.{News}
-use Rattle.device.specs.declared.state.News.TheVariants as brought
-use Rattle.device.specs.declared.state.Phase.{Phase}
-use Rattle.device.specs.declared.state.Repeat.{Repeat}
-use Rattle.device.specs.Beacons.{Beacon, plain, is_reset, numbers_in, grant_in, beacon_told, beacon_taken, admitted, agrees}
+use Rattle.device.specs.declared.device.Device.{Device}
+use Rattle.device.specs.declared.fate.Fate.{Fate}
+use Rattle.device.specs.declared.fate.Fate.TheVariants as fate
+use Rattle.device.specs.declared.news.News.{News}
+use Rattle.device.specs.declared.news.News.TheVariants as brought
+use Rattle.device.specs.declared.phase.Phase.{Phase}
+use Rattle.device.specs.declared.repeat.Repeat.{Repeat}
+use Rattle.device.specs.Beacons.{Beacon, plain, is_reset, beacon_told, beacon_taken, admitted, agrees}
+use Rattle.device.specs.Configurations.{numbers_in, grant_in}
 use Rattle.device.specs.Fates.{fate_by, repeat_by, by_room}
 use Rattle.device.specs.Steps as device
 use Rattle.network.specs.Calls.{misses_beacon, takes_beacon}
@@ -197,7 +198,7 @@ admits (Some c) b = let_in (not (eqb b.header.coordinator c.coordinator)) (not (
 
 -- the configuration of a grant tells its device all that a repeat turns on
 repeat_in : (n : Numbers) (g : Grant) (xs : List ℕ) → repeat_start (numbers_in (configuration_for n g)) xs (grant_in g.address (configuration_for n g)) ≡ repeat_start n xs g
-unfolding repeat_start
+unfolding repeat_start before_bits before_repeats
 repeat_in n g xs = refl
 
 -- a repeat is given only where the bit is zero
@@ -218,6 +219,7 @@ module _ {C : Type 0} (n : Numbers) (keep : NumbersKeep n) (g : Grant) (fits : g
   repeat_online = repeat_in n g (take (bitmap_octets n) sent) ∙ repeat_start_sent n sent g fits
 
   fate_online : fate_by g.address (configuration_for n g) (said_in online n sent) ≡ cond (acknowledged n sent g.first) fate.Confirmed (by_room (repeat_start n sent g))
+  unfolding before_bits
   fate_online =
       ap (λ (a : Bool). cond a fate.Confirmed (by_room (repeat_by g.address (configuration_for n g) (said_in online n sent)))) (acknowledged_sent n sent g.first fits)
       ∙ ap (λ (o : Option ℕ). cond (acknowledged n sent g.first) fate.Confirmed (by_room o)) repeat_online

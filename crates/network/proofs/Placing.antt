@@ -11,7 +11,7 @@ use Rattle.repeats.proofs.Serving.{apart}
 use Rattle.repeats.proofs.BitsAndRepeatsLieApart.{own_is_not_for_retransmission}
 use Rattle.repeats.proofs.RepeatsAreForRetransmission.{repeat_is_for_retransmission}
 use Rattle.coordinator.specs.declared.state.Inner.{Inner}
-use Rattle.device.specs.declared.state.Device.{Device}
+use Rattle.device.specs.declared.device.Device.{Device}
 use Rattle.network.specs.Deeds.{Deed, hand_up, transmission}
 use Rattle.network.specs.History.{Among, Sending, superframes, sendings}
 use Rattle.network.specs.Guarantee.{grant_of, simple_of, Takes, EveryFrameTakesItsTimeslot, NoTwoDevicesShareATimeslot, EverySenderIsADevice}

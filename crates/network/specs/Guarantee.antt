@@ -5,8 +5,9 @@ use Rattle.frame.specs.Messages.{data_frame, octets_of}
 use Rattle.plan.specs.declared.grant.Grant.{Grant}
 use Rattle.plan.specs.Rules.{PlanMeaning}
 use Rattle.plan.specs.Answers.{number_with}
-use Rattle.device.specs.declared.state.Device.{Device}
-use Rattle.device.specs.declared.state.Fate.TheVariants as fate
+use Rattle.device.specs.declared.device.Device.{Device}
+use Rattle.device.specs.Devices.{is_waiting, has_sent}
+use Rattle.device.specs.declared.fate.Fate.TheVariants as fate
 use Rattle.repeats.specs.BitAndRepeatTimeslots.{for_retransmission}
 use Rattle.coordinator.specs.Steps.{granted}
 use Rattle.network.specs.Calls.{Call}
@@ -105,7 +106,7 @@ module _ {C : Type 0} (m : PlanMeaning) (devices : Devices) (ds : List (Deed C))
     -- the account's cargo that waits, and that was sent and has no fate yet, is what the device itself says of these
     abbrev pub DeviceTellsWhatItHolds : Device C → Type 0
     DeviceTellsWhatItHolds v =
-        (waits d again ds ≡ cond (is_some v.waiting) 1 0) × (under_way d again ds ≡ cond (is_some v.sent) 1 0)
+        (waits d again ds ≡ cond (is_waiting v) 1 0) × (under_way d again ds ≡ cond (has_sent v) 1 0)
 
     -- the fate of acceptance k is told in the superframe after the one in which it was sent in its own timeslot
     abbrev pub FatesComeWithTheNextSuperframe : Type 0

@@ -3,7 +3,7 @@ use Rattle.std.specs.Prelude.{◌≡◌, ℕ, suc, Bool, true, false, cond, not,
 use Rattle.std.specs.List.{cons_option}
 use Rattle.std.specs.Option.{option_map}
 use Rattle.frame.specs.Octets.{bits, octet}
-use Rattle.device.specs.declared.state.Fate.{Fate}
+use Rattle.device.specs.declared.fate.Fate.{Fate}
 use Rattle.network.specs.Deeds.{Deed, opening, closing, hand_up, reply, news, acceptance, transmission}
 
 -- the entry with a number, from 1 for the oldest
