@@ -1,5 +1,7 @@
 -- What a device may count on, from a book that agrees with a history.
-use Rattle.std.proofs.Common.{◌≡◌, ℕ, suc, ◌+◌, ◌<◌, ◌≤◌, Bool, true, false, cond, ◌⊎◌, List, [], ◌∷◌, ◌++◌, map, filter, length, Some, None, Option, sym, refl, ap, ◌∙◌, subst, inl, inr, ⊎_elim, true≢false, arith}
+use Rattle.std.proofs.Common.{◌≡◌, ℕ, suc, ◌+◌, ◌<◌, ◌≤◌, Bool, true, false, cond, ◌⊎◌, List, [], ◌∷◌, ◌++◌, map}
+use Rattle.std.proofs.Common.{filter, length, Some, None, Option, sym, refl, ap, ◌∙◌, subst, inl, inr, ⊎_elim}
+use Rattle.std.proofs.Common.{true≢false, arith}
 use lib.ListN.{length-map}
 use Rattle.std.proofs.lemmas.Bool.{cases_eq, eq-eqb, ne_eqb, cond-true, cond-false}
 use Rattle.device.specs.declared.device.Device.{Device}
@@ -8,10 +10,17 @@ use Rattle.device.specs.declared.fate.Fate.TheVariants as fate
 use Rattle.plan.specs.Rules.{PlanMeaning}
 use Rattle.repeats.specs.BitAndRepeatTimeslots.{for_retransmission}
 use Rattle.network.specs.Deeds.{Deed, hand_up}
-use Rattle.network.specs.History.{numbered, Among, Sending, Telling, Arrival, Learning, sendings, told, learnings, is_own, own_sendings, arrivals}
+use Rattle.network.specs.History.{numbered, Among, Sending, Telling, Arrival, Learning, sendings, told, learnings}
+use Rattle.network.specs.History.{is_own, own_sendings, arrivals}
 use Rattle.network.specs.Runs.{Devices}
-use Rattle.network.specs.Guarantee.{Falling, simple_of, FatesComeWithTheNextSuperframe, HandedUpFromItsOwnTimeslot, TheNextNewsTellsTheFate, ConfirmedGoesByTheNewsThatTellsIt, TookTheNextBeaconOnline, ToldConfirmed, ConfirmedExactlyWhenHandedUp, OwnFramesStartWithTheGrant, OwnFramesCarryTheirAcceptances, RepeatsCarryWhatWasToldRepeated, EveryArrivalIsOfAFrameOfItsDevice, OneOwnFrameAndOneRepeatASuperframe, RepeatsComeWithTheirFate, DeviceGuaranteed}
-use Rattle.network.proofs.Books.{Line, Just, AllJust, Landing, landing_of, telling_of, arrivals_of, listed, since, in_flight, count, Agrees}
+use Rattle.network.specs.Guarantee.{Falling, simple_of, FatesComeWithTheNextSuperframe, HandedUpFromItsOwnTimeslot}
+use Rattle.network.specs.Guarantee.{TheNextNewsTellsTheFate, ConfirmedGoesByTheNewsThatTellsIt}
+use Rattle.network.specs.Guarantee.{TookTheNextBeaconOnline, ToldConfirmed, ConfirmedExactlyWhenHandedUp}
+use Rattle.network.specs.Guarantee.{OwnFramesStartWithTheGrant, OwnFramesCarryTheirAcceptances}
+use Rattle.network.specs.Guarantee.{RepeatsCarryWhatWasToldRepeated, EveryArrivalIsOfAFrameOfItsDevice}
+use Rattle.network.specs.Guarantee.{OneOwnFrameAndOneRepeatASuperframe, RepeatsComeWithTheirFate, DeviceGuaranteed}
+use Rattle.network.proofs.Books.{Line, Just, AllJust, Landing, landing_of, telling_of, arrivals_of, listed, since}
+use Rattle.network.proofs.Books.{in_flight, count, Agrees}
 use Rattle.network.proofs.Learning.{Learns, learning_of}
 use Rattle.network.proofs.Sound.{Outside}
 
@@ -23,7 +32,8 @@ module _ {A : Type 0} where
   numbered_under : (x : A) (xs : List A) (k : ℕ) → (k ≡ suc (length xs) → ⊥) → numbered (x ∷ xs) k ≡ numbered xs k
   numbered_under x xs k n = cond-false _ _ _ (ne_eqb k (suc (length xs)) n)
 
-  pub numbered_cases : (x : A) (xs : List A) (k : ℕ) (z : A) → numbered (x ∷ xs) k ≡ Some z → ((k ≡ suc (length xs)) × (z ≡ x)) ⊎ (numbered xs k ≡ Some z)
+  pub numbered_cases : (x : A) (xs : List A) (k : ℕ) (z : A) → numbered (x ∷ xs) k ≡ Some z
+      → ((k ≡ suc (length xs)) × (z ≡ x)) ⊎ (numbered xs k ≡ Some z)
   numbered_cases x xs k z h =
       elim (cases_eq k (suc (length xs))) [
         | inl e ↦ (let g : ◌≡◌ {A = Option A} (Some z) (Some x) = sym h ∙ numbered_top x xs k e in inl (e, cc))
@@ -43,7 +53,8 @@ module _ {A : Type 0} where
 
   numbered_among : (xs : List A) (k : ℕ) (z : A) → numbered xs k ≡ Some z → Among z xs
   numbered_among [] k z h = absurd cc
-  numbered_among (x ∷ xs) k z h = ⊎_elim (λ e. inl e.1) (λ g. inr (numbered_among xs k z g)) (numbered_cases x xs k z h)
+  numbered_among (x ∷ xs) k z h =
+      ⊎_elim (λ e. inl e.1) (λ g. inr (numbered_among xs k z g)) (numbered_cases x xs k z h)
 
   pub numbered_append : (ys xs : List A) (k : ℕ) (z : A) → numbered xs k ≡ Some z → numbered (ys ++ xs) k ≡ Some z
   numbered_append [] xs k z h = h
@@ -54,11 +65,13 @@ module _ {A B : Type 0} (f : A → B) where
   numbered_map [] k x h = absurd cc
   numbered_map (y ∷ ys) k x h =
       elim (numbered_cases y ys k x h) [
-        | inl e ↦ numbered_top (f y) (map f ys) k (e.0 ∙ ap suc (sym (length-map ys f))) ∙ ap (λ w. Some (f w)) (sym e.1)
+        | inl e ↦ numbered_top (f y) (map f ys) k (e.0 ∙ ap suc (sym (length-map ys f)))
+            ∙ ap (λ w. Some (f w)) (sym e.1)
         | inr g ↦ numbered_more (f y) (map f ys) k (f x) (numbered_map ys k x g)
       ]
 
-  numbered_unmap : (xs : List A) (k : ℕ) (z : B) → numbered (map f xs) k ≡ Some z → (x : A) × (numbered xs k ≡ Some x) × (z ≡ f x)
+  numbered_unmap : (xs : List A) (k : ℕ) (z : B) → numbered (map f xs) k ≡ Some z
+      → (x : A) × (numbered xs k ≡ Some x) × (z ≡ f x)
   numbered_unmap [] k z h = absurd cc
   numbered_unmap (y ∷ ys) k z h =
       elim (numbered_cases (f y) (map f ys) k z h) [
@@ -78,7 +91,8 @@ module _ {C : Type 0} where
   landed_among (y ∷ ys) x (inl e) = inl (ap landing_of e)
   landed_among (y ∷ ys) x (inr h) = inr (landed_among ys x h)
 
-  pub arrival_at : (xs : List (Arrival C)) (a : Landing C) → Among a (map landing_of xs) → (x : Arrival C) × Among x xs × (landing_of x ≡ a)
+  pub arrival_at : (xs : List (Arrival C)) (a : Landing C) → Among a (map landing_of xs)
+      → (x : Arrival C) × Among x xs × (landing_of x ≡ a)
   arrival_at [] a h = absurd h
   arrival_at (y ∷ ys) a (inl e) = (y, inl refl, sym e)
   arrival_at (y ∷ ys) a (inr h) = let u = arrival_at ys a h in (u.0, inr u.1, u.2)
@@ -97,34 +111,64 @@ module _ {C : Type 0} where
     pub handed : (own ≡ true) ⊎ (again ≡ true)
 
   arrival_split : (own again : Bool) (n : ℕ) (x : C) (rest : List (Landing C)) (a : Landing C)
-      → Among a (cond own (record { number = n; own = true; cargo = x } ∷ rest) (cond again (record { number = n; own = false; cargo = x } ∷ rest) rest))
+      → Among a
+      (cond own (record { number = n; own = true; cargo = x } ∷ rest)
+      (cond again (record { number = n; own = false; cargo = x } ∷ rest) rest))
       → Of n x own again a ⊎ Among a rest
-  arrival_split true again n x rest a (inl e) = inl (record { number = ap (λ z. z.number) e; cargo = ap (λ z. z.cargo) e; own_is = ap (λ z. z.own) e; handed = inl refl })
+  arrival_split true again n x rest a (inl e) =
+      inl (record {
+        number = ap (λ z. z.number) e;
+        cargo = ap (λ z. z.cargo) e;
+        own_is = ap (λ z. z.own) e;
+        handed =
+            inl refl;
+      })
   arrival_split true again n x rest a (inr h) = inr h
-  arrival_split false true n x rest a (inl e) = inl (record { number = ap (λ z. z.number) e; cargo = ap (λ z. z.cargo) e; own_is = ap (λ z. z.own) e; handed = inr refl })
+  arrival_split false true n x rest a (inl e) =
+      inl (record {
+        number = ap (λ z. z.number) e;
+        cargo = ap (λ z. z.cargo) e;
+        own_is = ap (λ z. z.own) e;
+        handed =
+            inr refl;
+      })
   arrival_split false true n x rest a (inr h) = inr h
   arrival_split false false n x rest a h = inr h
 
-  arrival_more : (own again : Bool) (y z : Landing C) (rest : List (Landing C)) (a : Landing C) → Among a rest → Among a (cond own (y ∷ rest) (cond again (z ∷ rest) rest))
+  arrival_more : (own again : Bool) (y z : Landing C) (rest : List (Landing C)) (a : Landing C) → Among a rest
+      → Among a (cond own (y ∷ rest) (cond again (z ∷ rest) rest))
   arrival_more true again y z rest a h = inr h
   arrival_more false true y z rest a h = inr h
   arrival_more false false y z rest a h = h
 
-  arrival_top : (own : Bool) (y : Landing C) (rest other : List (Landing C)) → own ≡ true → Among y (cond own (y ∷ rest) other)
+  arrival_top : (own : Bool) (y : Landing C) (rest other : List (Landing C)) → own ≡ true
+      → Among y (cond own (y ∷ rest) other)
   arrival_top true y rest other o = inl refl
   arrival_top false y rest other o = absurd cc
 
   -- an arrival comes from the line with its number
-  from_line : (book : List (Line C)) (a : Landing C) → Among a (arrivals_of book) → (y : Line C) × (numbered book a.number ≡ Some y) × Of a.number y.cargo y.own y.again a
+  from_line : (book : List (Line C)) (a : Landing C) → Among a (arrivals_of book)
+      → (y : Line C) × (numbered book a.number ≡ Some y) × Of a.number y.cargo y.own y.again a
   from_line [] a h = absurd h
   from_line (y ∷ ys) a h =
       elim (arrival_split y.own y.again (suc (length ys)) y.cargo (arrivals_of ys) a h) [
-        | inl o ↦ (y, numbered_top y ys a.number o.number, record { number = refl; cargo = o.cargo; own_is = o.own_is; handed = o.handed })
+        | inl o ↦ (
+          y,
+          numbered_top y ys a.number o.number,
+          record {
+            number = refl;
+            cargo = o.cargo;
+            own_is =
+                o.own_is;
+            handed = o.handed;
+          },
+        )
         | inr g ↦ (let u = from_line ys a g in (u.0, numbered_more y ys a.number u.0 u.1, u.2))
       ]
 
   -- a line that was handed up from its own timeslot has an arrival
-  to_arrival : (book : List (Line C)) (k : ℕ) (y : Line C) → numbered book k ≡ Some y → y.own ≡ true → (a : Landing C) × Among a (arrivals_of book) × (a.number ≡ k) × (a.own ≡ true)
+  to_arrival : (book : List (Line C)) (k : ℕ) (y : Line C) → numbered book k ≡ Some y → y.own ≡ true
+      → (a : Landing C) × Among a (arrivals_of book) × (a.number ≡ k) × (a.own ≡ true)
   to_arrival [] k y h o = absurd cc
   to_arrival (x ∷ xs) k y h o =
       elim (numbered_cases x xs k y h) [
@@ -134,13 +178,18 @@ module _ {C : Type 0} where
           sym e.0,
           refl,
         )
-        | inr g ↦ (let u = to_arrival xs k y g o in (u.0, arrival_more x.own x.again _ _ (arrivals_of xs) u.0 u.1, u.2, u.3))
+        | inr g ↦
+            (let u = to_arrival xs k y g o in
+            (u.0, arrival_more x.own x.again _ _ (arrivals_of xs) u.0 u.1, u.2, u.3))
       ]
 
-  line_bound : (book : List (Line C)) (a : Landing C) → Among a (arrivals_of book) → (1 ≤ a.number) × (a.number ≤ length book)
+  line_bound : (book : List (Line C)) (a : Landing C) → Among a (arrivals_of book)
+      → (1 ≤ a.number) × (a.number ≤ length book)
   line_bound book a h = let u = from_line book a h in numbered_bound book a.number u.0 u.1
 
-  falling_split : (own again : Bool) (y z : Landing C) (rest : List (Landing C)) → Descending rest → ((a : Landing C) → Among a rest → a.number < y.number) → ((a : Landing C) → Among a rest → a.number < z.number)
+  falling_split : (own again : Bool) (y z : Landing C) (rest : List (Landing C)) → Descending rest
+      → ((a : Landing C) → Among a rest → a.number < y.number)
+      → ((a : Landing C) → Among a rest → a.number < z.number)
       → Descending (cond own (y ∷ rest) (cond again (z ∷ rest) rest))
   falling_split true again y z rest f p q = (p, f)
   falling_split false true y z rest f p q = (q, f)
@@ -149,7 +198,8 @@ module _ {C : Type 0} where
   falling : (book : List (Line C)) → Descending (arrivals_of book)
   falling [] = tt
   falling (y ∷ ys) =
-      let below : (a : Landing C) → Among a (arrivals_of ys) → a.number < suc (length ys) = λ a h. (let b = line_bound ys a h in omega arith) in
+      let below : (a : Landing C) → Among a (arrivals_of ys) → a.number < suc (length ys) =
+      λ a h. (let b = line_bound ys a h in omega arith) in
       falling_split y.own y.again _ _ (arrivals_of ys) (falling ys) below below
 
   just_at : (book : List (Line C)) (k : ℕ) (y : Line C) → AllJust book → numbered book k ≡ Some y → Just y
@@ -162,40 +212,50 @@ module _ {C : Type 0} where
 
 -- with what waits and what was sent
 module _ {C : Type 0} where
-  flying : (bit : Bool) (n : ℕ) (sent : Option C) (rest : List (Landing C)) (a : Landing C) → Among a (in_flight bit n sent ++ rest)
+  flying : (bit : Bool) (n : ℕ) (sent : Option C) (rest : List (Landing C)) (a : Landing C)
+      → Among a (in_flight bit n sent ++ rest)
       → ((a.number ≡ suc n) × (sent ≡ Some a.cargo)) ⊎ Among a rest
   flying bit n None rest a h = inr h
   flying true n (Some x) rest a (inl e) = inl (ap (λ z. z.number) e, ap (λ z. Some z.cargo) (sym e))
   flying true n (Some x) rest a (inr h) = inr h
   flying false n (Some x) rest a h = inr h
 
-  flying_more : (bit : Bool) (n : ℕ) (sent : Option C) (rest : List (Landing C)) (a : Landing C) → Among a rest → Among a (in_flight bit n sent ++ rest)
+  flying_more : (bit : Bool) (n : ℕ) (sent : Option C) (rest : List (Landing C)) (a : Landing C) → Among a rest
+      → Among a (in_flight bit n sent ++ rest)
   flying_more bit n None rest a h = h
   flying_more true n (Some x) rest a h = inr h
   flying_more false n (Some x) rest a h = h
 
-  flying_falling : (bit : Bool) (n : ℕ) (sent : Option C) (rest : List (Landing C)) → Descending rest → ((a : Landing C) → Among a rest → a.number < suc n) → Descending (in_flight bit n sent ++ rest)
+  flying_falling : (bit : Bool) (n : ℕ) (sent : Option C) (rest : List (Landing C)) → Descending rest
+      → ((a : Landing C) → Among a rest → a.number < suc n) → Descending (in_flight bit n sent ++ rest)
   flying_falling bit n None rest f p = f
   flying_falling true n (Some x) rest f p = (p, f)
   flying_falling false n (Some x) rest f p = f
 
   counted : (waiting sent : Option C) (book : List (Line C))
-      → length (listed waiting ++ (listed sent ++ map (λ y. y.cargo) book)) ≡ length (map telling_of book) + count sent + count waiting
+      → length (listed waiting ++ (listed sent ++ map (λ y. y.cargo) book)) ≡ length
+      (map telling_of book) + count sent + count waiting
   counted None None book = let a = length-map book (λ y. y.cargo) in let b = length-map book telling_of in omega arith
-  counted None (Some x) book = let a = length-map book (λ y. y.cargo) in let b = length-map book telling_of in omega arith
-  counted (Some w) None book = let a = length-map book (λ y. y.cargo) in let b = length-map book telling_of in omega arith
-  counted (Some w) (Some x) book = let a = length-map book (λ y. y.cargo) in let b = length-map book telling_of in omega arith
+  counted None (Some x) book = let a = length-map book (λ y. y.cargo) in let b =
+      length-map book telling_of in omega arith
+  counted (Some w) None book = let a = length-map book (λ y. y.cargo) in let b =
+      length-map book telling_of in omega arith
+  counted (Some w) (Some x) book = let a = length-map book (λ y. y.cargo) in let b =
+      length-map book telling_of in omega arith
 
   module _ (waiting sent : Option C) (s : ℕ) (bit : Bool) (book : List (Line C)) where
     abbrev flown_arrivals : List (Landing C)
     flown_arrivals = in_flight bit (length book) sent ++ arrivals_of book
 
-    accepted_at : (a : Landing C) → Among a flown_arrivals → numbered (listed waiting ++ (listed sent ++ map (λ y. y.cargo) book)) a.number ≡ Some a.cargo
+    accepted_at : (a : Landing C) → Among a flown_arrivals
+        → numbered (listed waiting ++ (listed sent ++ map (λ y. y.cargo) book)) a.number ≡ Some a.cargo
     accepted_at a h =
         elim (flying bit (length book) sent (arrivals_of book) a h) [
           | inl e ↦ numbered_append (listed waiting) _ a.number a.cargo
-              (subst (λ (o : Option C). numbered (listed o ++ map (λ y. y.cargo) book) a.number ≡ Some a.cargo) (sym e.1)
-              (numbered_top a.cargo (map (λ y. y.cargo) book) a.number (e.0 ∙ ap suc (sym (length-map book (λ y. y.cargo))))))
+              (subst (λ (o : Option C). numbered (listed o ++ map (λ y. y.cargo) book) a.number ≡ Some a.cargo)
+              (sym e.1)
+              (numbered_top a.cargo (map (λ y. y.cargo) book) a.number
+              (e.0 ∙ ap suc (sym (length-map book (λ y. y.cargo))))))
           | inr g ↦ (let u = from_line book a g in
               numbered_append (listed waiting) _ a.number a.cargo
               (numbered_append (listed sent) _ a.number a.cargo
@@ -203,15 +263,22 @@ module _ {C : Type 0} where
         ]
 
     in_order : Descending flown_arrivals
-    in_order = flying_falling bit (length book) sent (arrivals_of book) (falling book) (λ a h. (let b = line_bound book a h in omega arith))
+    in_order = flying_falling bit (length book) sent (arrivals_of book) (falling book)
+        (λ a h. (let b = line_bound book a h in omega arith))
 
-    told_later : (k : ℕ) (x : Telling) → numbered (map telling_of book) k ≡ Some x → (t : ℕ) × (numbered (since s sent ++ map (λ y. y.sent) book) k ≡ Some t) × (x.superframe ≡ suc t)
+    told_later : (k : ℕ) (x : Telling) → numbered (map telling_of book) k ≡ Some x
+        → (t : ℕ) × (numbered (since s sent ++ map (λ y. y.sent) book) k ≡ Some t) × (x.superframe ≡ suc t)
     told_later k x h =
-        let u = numbered_unmap telling_of book k x h in
-        (u.0.sent, numbered_append (since s sent) _ k u.0.sent (numbered_map (λ y. y.sent) book k u.0 u.1), ap (λ (z : Telling). z.superframe) u.2)
+        let u = numbered_unmap telling_of book k x h in (
+          u.0.sent,
+          numbered_append (since s sent) _ k u.0.sent (numbered_map (λ y. y.sent) book k u.0 u.1),
+          ap
+              (λ (z : Telling). z.superframe) u.2,
+        )
 
     -- an arrival of a line whose fate was told
-    told_arrival : (k : ℕ) (y : Line C) (a : Landing C) → numbered book k ≡ Some y → Among a flown_arrivals → a.number ≡ k → Of k y.cargo y.own y.again a
+    told_arrival : (k : ℕ) (y : Line C) (a : Landing C) → numbered book k ≡ Some y → Among a flown_arrivals
+        → a.number ≡ k → Of k y.cargo y.own y.again a
     told_arrival k y a h i e =
         elim (flying bit (length book) sent (arrivals_of book) a i) [
           | inl f ↦ (let b = numbered_bound book k y h in let g = f.0 in absurd (omega arith))
@@ -227,20 +294,26 @@ module _ {C : Type 0} where
         ]
 
     module _ (just : AllJust book) (k : ℕ) (x : Telling) (h : numbered (map telling_of book) k ≡ Some x) where
-      confirmed_handed : x.fate ≡ fate.Confirmed → ((a : Landing C) × Among a flown_arrivals × (a.number ≡ k) × (a.own ≡ true)) × (x.online ≡ true)
+      confirmed_handed : x.fate ≡ fate.Confirmed
+          → ((a : Landing C) × Among a flown_arrivals × (a.number ≡ k) × (a.own ≡ true)) × (x.online ≡ true)
       confirmed_handed c =
           let u = numbered_unmap telling_of book k x h in
           let j = just_at book k u.0 just u.1 in
           let p = j.confirmed (sym (ap (λ (z : Telling). z.fate) u.2) ∙ c) in
-          let a = to_arrival book k u.0 u.1 p.0 in
-          ((a.0, flying_more bit (length book) sent (arrivals_of book) a.0 a.1, a.2, a.3), ap (λ (z : Telling). z.online) u.2 ∙ p.1)
+          let a = to_arrival book k u.0 u.1 p.0 in (
+            (a.0, flying_more bit (length book) sent (arrivals_of book) a.0 a.1, a.2, a.3),
+            ap
+                (λ (z : Telling). z.online) u.2 ∙ p.1,
+          )
 
-      handed_confirmed : ((a : Landing C) × Among a flown_arrivals × (a.number ≡ k) × (a.own ≡ true)) × (x.online ≡ true) → x.fate ≡ fate.Confirmed
+      handed_confirmed : ((a : Landing C) × Among a flown_arrivals × (a.number ≡ k) × (a.own ≡ true))
+          × (x.online ≡ true) → x.fate ≡ fate.Confirmed
       handed_confirmed p =
           let u = numbered_unmap telling_of book k x h in
           let j = just_at book k u.0 just u.1 in
           let o = told_arrival k u.0 p.0.0 u.1 p.0.1 p.0.2 in
-          ap (λ (z : Telling). z.fate) u.2 ∙ j.handed_up (sym o.own_is ∙ p.0.3) (sym (ap (λ (z : Telling). z.online) u.2) ∙ p.1)
+          ap (λ (z : Telling). z.fate) u.2
+          ∙ j.handed_up (sym o.own_is ∙ p.0.3) (sym (ap (λ (z : Telling). z.online) u.2) ∙ p.1)
 
       lost_never : x.fate ≡ fate.Lost → (a : Landing C) → Among a flown_arrivals → a.number ≡ k → ⊥
       lost_never c a i e =
@@ -254,7 +327,9 @@ module _ {C : Type 0} where
           ]
 
 -- a frame of the own timeslot has a line, or was sent without a fate yet
-sent_at : {C : Type 0} (o : Option C) (s : ℕ) (book : List (Line C)) (k t : ℕ) → numbered (since s o ++ map (λ y. y.sent) book) k ≡ Some t → (t ≡ s) ⊎ ((y : Line C) × (numbered book k ≡ Some y) × (t ≡ y.sent))
+sent_at : {C : Type 0} (o : Option C) (s : ℕ) (book : List (Line C)) (k t : ℕ)
+    → numbered (since s o ++ map (λ y. y.sent) book) k ≡ Some t
+    → (t ≡ s) ⊎ ((y : Line C) × (numbered book k ≡ Some y) × (t ≡ y.sent))
 sent_at None s book k t h = let u = numbered_unmap (λ y. y.sent) book k t h in inr (u.0, u.1, u.2)
 sent_at (Some x) s book k t h =
     elim (numbered_cases s (map (λ y. y.sent) book) k t h) [
@@ -263,28 +338,36 @@ sent_at (Some x) s book k t h =
     ]
 
 module _ {C : Type 0} (m : PlanMeaning) (devices : Devices) (ds : List (Deed C)) (d : ℕ) (l : Learns d ds) where
-  next_tells : (sent : Option C) (s : ℕ) (book : List (Line C)) → own_sendings d (for_retransmission m.numbers) ds ≡ since s sent ++ map (λ y. y.sent) book → told d ds ≡ map telling_of book
-      → ((x : Learning) → Among x (learnings d ds) → x.superframe ≡ suc s → ⊥) → TheNextNewsTellsTheFate m devices ds d
+  next_tells : (sent : Option C) (s : ℕ) (book : List (Line C))
+      → own_sendings d (for_retransmission m.numbers) ds ≡ since s sent ++ map (λ y. y.sent) book
+      → told d ds ≡ map telling_of book
+      → ((x : Learning) → Among x (learnings d ds) → x.superframe ≡ suc s → ⊥)
+      → TheNextNewsTellsTheFate m devices ds d
   next_tells sent s book sends tells never k t x at among is =
       elim (sent_at sent s book k t (sym (ap (λ (z : List ℕ). numbered z k) sends) ∙ at)) [
         | inl late ↦ absurd (never x among (is ∙ ap suc late))
         | inr u ↦ (
             let y = telling_of u.0 in
-            let there : numbered (told d ds) k ≡ Some y = ap (λ (z : List Telling). numbered z k) tells ∙ numbered_map telling_of book k u.0 u.1 in
+            let there : numbered (told d ds) k ≡ Some y =
+            ap (λ (z : List Telling). numbered z k) tells ∙ numbered_map telling_of book k u.0 u.1 in
             let same : y.superframe ≡ x.superframe = ap suc (sym u.2) ∙ sym is in
             let news = l.one (learning_of y) x (l.tellings y (numbered_among (told d ds) k y there)) among same in
             (y, there, same, ap (λ (z : Learning). z.online) news))
       ]
 
   -- with what is known of fates that were told
-  module _ (by_news : ConfirmedGoesByTheNewsThatTellsIt m devices ds d) (next : FatesComeWithTheNextSuperframe m devices ds d) (fate_told : TheNextNewsTellsTheFate m devices ds d) where
-    taken_when : (k : ℕ) → ToldConfirmed m devices ds d k → HandedUpFromItsOwnTimeslot m devices ds d k × TookTheNextBeaconOnline m devices ds d k
+  module _ (by_news : ConfirmedGoesByTheNewsThatTellsIt m devices ds d)
+      (next : FatesComeWithTheNextSuperframe m devices ds d)
+      (fate_told : TheNextNewsTellsTheFate m devices ds d) where
+    taken_when : (k : ℕ) → ToldConfirmed m devices ds d k
+        → HandedUpFromItsOwnTimeslot m devices ds d k × TookTheNextBeaconOnline m devices ds d k
     taken_when k (x, at, is) =
         let p = (by_news k x at).0 is in
         let n = next k x at in
         (p.0, (n.0, learning_of x, n.1, l.tellings x (numbered_among (told d ds) k x at), n.2, p.1))
 
-    told_when : (k : ℕ) → HandedUpFromItsOwnTimeslot m devices ds d k × TookTheNextBeaconOnline m devices ds d k → ToldConfirmed m devices ds d k
+    told_when : (k : ℕ) → HandedUpFromItsOwnTimeslot m devices ds d k × TookTheNextBeaconOnline m devices ds d k
+        → ToldConfirmed m devices ds d k
     told_when k (handed, (t, x, at, among, is, online)) =
         let y = fate_told k t x at among is in
         (y.0, y.1, (by_news k y.0 y.1).1 (handed, y.3 ∙ online))
@@ -293,7 +376,8 @@ module _ {C : Type 0} (m : PlanMeaning) (devices : Devices) (ds : List (Deed C))
     exactly k = (taken_when k, told_when k)
 
 -- which acceptances its frames carry, and when, is no matter of the book alone, and is handed in
-pub record Carried {C : Type 0} (image : C → List ℕ) (m : PlanMeaning) (devices : Devices) (ds : List (Deed C)) (d : ℕ) : Type 0 where
+pub record Carried {C : Type 0} (image : C → List ℕ) (m : PlanMeaning) (devices : Devices) (ds : List (Deed C))
+    (d : ℕ) : Type 0 where
   pub own : OwnFramesCarryTheirAcceptances m devices ds d image
   pub again : RepeatsCarryWhatWasToldRepeated m devices ds d image
   pub of_its_frame : EveryArrivalIsOfAFrameOfItsDevice m devices ds d
@@ -303,8 +387,10 @@ pub record Carried {C : Type 0} (image : C → List ℕ) (m : PlanMeaning) (devi
   pub learns : Learns d ds
 
 pub from_book : {C : Type 0} (image : C → List ℕ) (m : PlanMeaning) (devices : Devices) (ds : List (Deed C)) (d : ℕ)
-    → Carried image m devices ds d → (simple : Option ℕ) (waiting sent : Option C) (k : ℕ) (bit : Bool) (book : List (Line C))
-    → simple_of m (devices.address d) ≡ simple → Agrees (for_retransmission m.numbers) simple d ds waiting sent k bit book
+    → Carried image m devices ds d → (simple : Option ℕ) (waiting sent : Option C) (k : ℕ) (bit : Bool)
+    (book : List (Line C))
+    → simple_of m (devices.address d) ≡ simple
+    → Agrees (for_retransmission m.numbers) simple d ds waiting sent k bit book
     → ((x : Learning) → Among x (learnings d ds) → x.superframe ≡ suc k → ⊥) → DeviceGuaranteed m devices ds d image
 from_book {C = C} image m devices ds d carried simple waiting sent k bit book q g never =
     let r = for_retransmission m.numbers in
@@ -322,20 +408,27 @@ from_book {C = C} image m devices ds d carried simple waiting sent k bit book q 
           let p = confirmed_handed waiting sent k bit book g.just i x h' c in
           let u = arrival_at xs p.0.0 (subst (λ (l : List (Landing C)). Among p.0.0 l) (sym arrived) p.0.1) in
           ((u.0, u.1, ap (λ (a : Landing C). a.number) u.2 ∙ p.0.2, ap (λ (a : Landing C). a.own) u.2 ∙ p.0.3), p.1),
-      λ p. handed_confirmed waiting sent k bit book g.just i x h' ((landing_of p.0.0, landed p.0.0 p.0.1, p.0.2, p.0.3), p.1),
+      λ p. handed_confirmed waiting sent k bit book g.just i x h'
+          ((landing_of p.0.0, landed p.0.0 p.0.1, p.0.2, p.0.3), p.1),
     )) in
     let fate_told : TheNextNewsTellsTheFate m devices ds d =
     next_tells m devices ds d carried.learns sent k book g.sends g.tells never in
     record {
-      accepted_before = λ x h. ap (λ (l : List C). numbered l x.frame.number) g.accepts ∙ accepted_at waiting sent k bit book (landing_of x) (landed x h);
-      in_order = descending xs (subst (λ (l : List (Landing C)). Descending l) (sym arrived) (in_order waiting sent k bit book));
-      accounted = (let a = ap length g.accepts in let b = ap length g.tells in let c = counted waiting sent book in let e = g.under_way in let f = g.waits in omega arith);
+      accepted_before = λ x h. ap (λ (l : List C). numbered l x.frame.number) g.accepts
+          ∙ accepted_at waiting sent k bit book (landing_of x) (landed x h);
+      in_order =
+          descending xs
+          (subst (λ (l : List (Landing C)). Descending l) (sym arrived) (in_order waiting sent k bit book));
+      accounted =
+          (let a = ap length g.accepts in let b = ap length g.tells in let c = counted waiting sent book in let e =
+          g.under_way in let f = g.waits in omega arith);
       next_superframe = next;
       fate_told = fate_told;
       by_news = by_news;
       confirmed = exactly m devices ds d carried.learns by_news next fate_told;
       lost = λ i x h c y a e.
-          lost_never waiting sent k bit book g.just i x (subst (λ (l : List Telling). numbered l i ≡ Some x) g.tells h) c (landing_of y) (landed y a) e;
+          lost_never waiting sent k bit book g.just i x
+          (subst (λ (l : List Telling). numbered l i ≡ Some x) g.tells h) c (landing_of y) (landed y a) e;
       own_frames_carry = carried.own;
       of_its_frame = carried.of_its_frame;
       own_first = carried.own_first;
@@ -351,7 +444,8 @@ arrivals_none r e (hand_up t xs simple x ∷ ds) = arrivals_none r e ds
 arrivals_none r e (d ∷ ds) = arrivals_none r e ds
 
 -- what was sent in the own timeslot was sent
-own_sent : (r : ℕ → Bool) (e : ℕ) (xs : List Sending) (t : ℕ) → Among t (map (λ (x : Sending). x.superframe) (filter (is_own e r) xs))
+own_sent : (r : ℕ → Bool) (e : ℕ) (xs : List Sending) (t : ℕ)
+    → Among t (map (λ (x : Sending). x.superframe) (filter (is_own e r) xs))
     → (x : Sending) × Among x xs × (x.device ≡ e)
 own_sent r e [] t h = absurd h
 own_sent r e (x ∷ xs) t h = elim (cases_eq x.device e) [
@@ -364,19 +458,28 @@ none_told ts k x e h =
     let n : ◌≡◌ {A = Option Telling} None (Some x) = sym (ap (λ (l : List Telling). numbered l k) e) ∙ h in
     absurd cc
 
-pub from_outside : {C : Type 0} (image : C → List ℕ) (m : PlanMeaning) (devices : Devices) (ds : List (Deed C)) (d : ℕ)
+pub from_outside : {C : Type 0} (image : C → List ℕ) (m : PlanMeaning) (devices : Devices) (ds : List (Deed C))
+    (d : ℕ)
     → Carried image m devices ds d → (v : Device C)
     → simple_of m (devices.address d) ≡ None → Outside d v ds → DeviceGuaranteed m devices ds d image
 from_outside {C = C} image m devices ds d carried v q o =
     let r = for_retransmission m.numbers in
-    let arrived : arrivals d r (simple_of m (devices.address d)) ds ≡ [] = ap (λ (s : Option ℕ). arrivals d r s ds) q ∙ arrivals_none r d ds in
-    let next : FatesComeWithTheNextSuperframe m devices ds d = λ i x h. absurd (none_told (told d ds) i x o.no_told h) in
-    let by_news : ConfirmedGoesByTheNewsThatTellsIt m devices ds d = λ i x h. absurd (none_told (told d ds) i x o.no_told h) in
-    let fate_told : TheNextNewsTellsTheFate m devices ds d = λ i t x at among is. (let w = own_sent r d (sendings ds) t (numbered_among (own_sendings d r ds) i t at) in absurd (o.no_sendings w.0 w.1 w.2)) in
+    let arrived : arrivals d r (simple_of m (devices.address d)) ds ≡ [] =
+    ap (λ (s : Option ℕ). arrivals d r s ds) q ∙ arrivals_none r d ds in
+    let next : FatesComeWithTheNextSuperframe m devices ds d =
+    λ i x h. absurd (none_told (told d ds) i x o.no_told h) in
+    let by_news : ConfirmedGoesByTheNewsThatTellsIt m devices ds d =
+    λ i x h. absurd (none_told (told d ds) i x o.no_told h) in
+    let fate_told : TheNextNewsTellsTheFate m devices ds d =
+    λ i t x at among is.
+    (let w = own_sent r d (sendings ds) t (numbered_among (own_sendings d r ds) i t at) in
+    absurd (o.no_sendings w.0 w.1 w.2)) in
     record {
       accepted_before = λ x h. absurd (subst (λ (l : List (Arrival C)). Among x l) arrived h);
       in_order = subst (λ (l : List (Arrival C)). Falling l) (sym arrived) tt;
-      accounted = (let a = ap length o.no_accepted in let b = ap length o.no_told in let e = o.none_under_way r in let f = o.no_waits r in omega arith);
+      accounted =
+          (let a = ap length o.no_accepted in let b = ap length o.no_told in let e = o.none_under_way r in let f =
+          o.no_waits r in omega arith);
       next_superframe = next;
       fate_told = fate_told;
       by_news = by_news;

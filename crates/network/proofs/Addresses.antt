@@ -6,7 +6,8 @@ use Rattle.device.specs.declared.device.Device.{Device}
 use Rattle.device.specs.Beacons.{Beacon, beacon_taken}
 use Rattle.device.specs.Phases.{thanked}
 use Rattle.device.specs.Steps as device
-use Rattle.network.specs.Calls.{Call, set_mode, opens, hears, hears_management, closes, takes_beacon, misses_beacon, is_offered, sends, writes_management, takes_management, device_after}
+use Rattle.network.specs.Calls.{Call, set_mode, opens, hears, hears_management, closes, takes_beacon, misses_beacon}
+use Rattle.network.specs.Calls.{is_offered, sends, writes_management, takes_management, device_after}
 use Rattle.network.specs.Runs.{Devices, hall}
 
 module _ {C : Type 0} where
@@ -39,16 +40,23 @@ module _ {C : Type 0} (image : C → List ℕ) (m : PlanMeaning) where
   kept e v (hears k t xs r) = refl
   kept e v (hears_management k xs buffer r memory) = refl
   kept e v (closes k r) = refl
-  kept e v (takes_beacon d xs r) = either (eqb d e) (device.beacon_state v xs) v (by_beacon v (beacon_taken v.configuration xs))
+  kept e v (takes_beacon d xs r) =
+      either (eqb d e) (device.beacon_state v xs) v (by_beacon v (beacon_taken v.configuration xs))
   kept e v (misses_beacon d r) = either (eqb d e) (device.missed_state v) v refl
-  kept e v (is_offered d x r) = either (eqb d e) (device.offer_state image v x) v (either (is_ok (device.offer_answer image v x)) (device.holding v x) v refl)
-  kept e v (sends d t buffer r memory) = either (eqb d e) (device.send_state image v t buffer) v (either (is_ok (device.send_answer image v t buffer)) (device.after_turn v (device.turn image v t)) v (by_turn v (device.turn image v t)))
+  kept e v (is_offered d x r) = either (eqb d e) (device.offer_state image v x) v
+      (either (is_ok (device.offer_answer image v x)) (device.holding v x) v refl)
+  kept e v (sends d t buffer r memory) =
+      either (eqb d e) (device.send_state image v t buffer) v
+      (either (is_ok (device.send_answer image v t buffer)) (device.after_turn v (device.turn image v t)) v
+      (by_turn v (device.turn image v t)))
   kept e v (writes_management d buffer r memory) =
       either (eqb d e) (device.write_state v buffer) v
-      (either (is_ok (device.write_answer v buffer)) (cond (device.is_missed v.news) v (device.in_phase v (thanked v.phase))) v
+      (either (is_ok (device.write_answer v buffer))
+      (cond (device.is_missed v.news) v (device.in_phase v (thanked v.phase))) v
       (either' (device.is_missed v.news) v (device.in_phase v (thanked v.phase)) refl))
   kept e v (takes_management d xs r) = either (eqb d e) (device.take_state v xs) v (by_taking v (device.taking v xs))
 
-  pub address_of : (devices : Devices) (cs : List (Call C)) (e : ℕ) → ((hall image m devices cs).devices e).address ≡ devices.address e
+  pub address_of : (devices : Devices) (cs : List (Call C)) (e : ℕ)
+      → ((hall image m devices cs).devices e).address ≡ devices.address e
   address_of devices [] e = refl
   address_of devices (c ∷ cs) e = kept e ((hall image m devices cs).devices e) c ∙ address_of devices cs e

@@ -1,11 +1,14 @@
 -- A device's book: a line for each acceptance whose fate was told, the newest first.
-use Rattle.std.proofs.Common.{◌≡◌, ℕ, suc, ◌<◌, Bool, true, false, cond, List, [], ◌∷◌, ◌++◌, map, length, Some, None, Option}
+use Rattle.std.proofs.Common.{◌≡◌, ℕ, suc, ◌<◌, Bool, true, false, cond, List, [], ◌∷◌, ◌++◌, map, length, Some, None}
+use Rattle.std.proofs.Common.{Option}
 use Rattle.device.specs.declared.fate.Fate.{Fate}
 use Rattle.device.specs.declared.fate.Fate.TheVariants as fate
 use Rattle.network.specs.Deeds.{Deed}
-use Rattle.network.specs.History.{Telling, Arrival, superframes, accepted, told, own_sendings, arrivals, under_way, waits}
+use Rattle.network.specs.History.{Telling, Arrival, superframes, accepted, told, own_sendings, arrivals, under_way}
+use Rattle.network.specs.History.{waits}
 
--- the cargo, the superframe in which it was sent, whether it was handed up from its own timeslot, whether as a repeat, its fate, and
+-- the cargo, the superframe in which it was sent, whether it was handed up from its own timeslot, whether as a
+-- repeat, its fate, and
 -- whether that was told by an Online beacon
 pub record Line (C : Type 0) : Type 0 where
   pub cargo : C
@@ -44,7 +47,8 @@ abbrev pub arrivals_of : {C : Type 0} → List (Line C) → List (Landing C)
 arrivals_of [] = []
 arrivals_of (y ∷ ys) =
     cond y.own (record { number = suc (length ys); own = true; cargo = y.cargo } ∷ arrivals_of ys)
-    (cond y.again (record { number = suc (length ys); own = false; cargo = y.cargo } ∷ arrivals_of ys) (arrivals_of ys))
+    (cond y.again (record { number = suc (length ys); own = false; cargo = y.cargo } ∷ arrivals_of ys)
+    (arrivals_of ys))
 
 -- what may be there, as a list
 abbrev pub listed : {A : Type 0} → Option A → List A
@@ -70,9 +74,12 @@ abbrev pub AllBefore : {C : Type 0} → ℕ → List (Line C) → Type 0
 AllBefore k [] = Unit {0}
 AllBefore k (y ∷ ys) = (y.sent < k) × AllBefore k ys
 
--- a book agrees with a history, for the device at place e with a simple address, where `again` says which timeslots are for
--- retransmission: what waits and what was sent in superframe k, and the bit that tells whether the latter was handed up
-pub record Agrees {C : Type 0} (again : ℕ → Bool) (simple : Option ℕ) (e : ℕ) (ds : List (Deed C)) (waiting sent : Option C)
+-- a book agrees with a history, for the device at place e with a simple address, where `again` says which timeslots
+-- are for
+-- retransmission: what waits and what was sent in superframe k, and the bit that tells whether the latter was handed
+-- up
+pub record Agrees {C : Type 0} (again : ℕ → Bool) (simple : Option ℕ) (e : ℕ) (ds : List (Deed C))
+    (waiting sent : Option C)
     (k : ℕ) (bit : Bool) (book : List (Line C)) : Type 0 where
   pub accepts : accepted e ds ≡ listed waiting ++ (listed sent ++ map (λ y. y.cargo) book)
   pub tells : told e ds ≡ map telling_of book

@@ -1,5 +1,6 @@
 -- The run of the example, by computation.
-use Rattle.std.proofs.Common.{◌≡◌, ℕ, zero, suc, ◌<◌, ◌≤◌, true, false, cond, eqb, length, unwrap_or, Some, None, Ok, Err, refl, inl, arith}
+use Rattle.std.proofs.Common.{◌≡◌, ℕ, zero, suc, ◌<◌, ◌≤◌, true, false, cond, eqb, length, unwrap_or, Some, None, Ok}
+use Rattle.std.proofs.Common.{Err, refl, inl, arith}
 use Rattle.frame.specs.declared.faults.Refusal.TheVariants as refusal
 use Rattle.frame.specs.Refusals.{fault}
 use Rattle.plan.specs.Rules.{Rules}
@@ -13,7 +14,8 @@ use Rattle.repeats.specs.BitAndRepeatTimeslots.{before_bits, before_repeats}
 use Rattle.repeats.specs.Starts.{repeat_start, repeater_at, beginner_at, sender_at}
 use Rattle.device.specs.Beacons.{bitmap_fits}
 use Rattle.network.specs.Runs.{Different, Run}
-use Rattle.network.specs.Example.{plan, devices, cold, warm, calls_0, calls_1, calls_2, calls_3, calls_4, calls, Example}
+use Rattle.network.specs.Example.{plan, devices, cold, warm, calls_0, calls_1, calls_2, calls_3, calls_4, calls}
+use Rattle.network.specs.Example.{Example}
 
 pub rules : Rules plan
 unfolding verdict breaking clashing_before clashing numbers_kept grant_kept
@@ -26,7 +28,8 @@ pub different : Different devices
 different d e p q h = omega arith
 
 -- both devices had their news
-both : (d : ℕ) → d < 2 → unwrap_or (cond (eqb 1 d) (Some true) None) (unwrap_or (cond (eqb 0 d) (Some true) None) false) ≡ true
+both : (d : ℕ) → d < 2 → unwrap_or (cond (eqb 1 d) (Some true) None)
+    (unwrap_or (cond (eqb 0 d) (Some true) None) false) ≡ true
 both zero p = refl
 both (suc zero) p = refl
 both (suc (suc d)) p = absurd (omega arith)
@@ -36,7 +39,8 @@ computing : Unit {0}
 unfolding number_with numbers_kept grant_kept bitmap_fits before_bits before_repeats repeat_start repeater_at beginner_at sender_at
 computing = tt
 
--- The run, superframe by superframe. Of each call, from the oldest on: its answer, that its device is there, and the rules of the network.
+-- The run, superframe by superframe. Of each call, from the oldest on: its answer, that its device is there, and the
+-- rules of the network.
 
 pub run_0 : Run image_of plan devices calls_0
 unfolding computing

@@ -1,5 +1,6 @@
 -- A data frame that is heard keeps every device sound: the one that sent it, and the others.
-use Rattle.std.proofs.Common.{◌≡◌, ℕ, suc, ◌<◌, ◌≤◌, Bool, true, false, cond, ◌&&◌, ◌⊎◌, List, [], ◌∷◌, ◌++◌, map, length, Some, None, Ok, Option, sym, refl, ap, ◌∙◌, subst, inl, inr, ⊎_elim, arith}
+use Rattle.std.proofs.Common.{◌≡◌, ℕ, suc, ◌<◌, ◌≤◌, Bool, true, false, cond, ◌&&◌, ◌⊎◌, List, [], ◌∷◌, ◌++◌, map}
+use Rattle.std.proofs.Common.{length, Some, None, Ok, Option, sym, refl, ap, ◌∙◌, subst, inl, inr, ⊎_elim, arith}
 use lib.ListN.{length-map}
 use Rattle.std.proofs.lemmas.Bool.{cases_lt, cond-true, cond-false, eq-eqb, ne_eqb, le-leb, lt-leb}
 use Rattle.plan.specs.declared.grant.Grant.{Grant}
@@ -23,7 +24,8 @@ use Rattle.network.specs.Deeds.{Deed, hand_up}
 use Rattle.network.specs.History as history
 use Rattle.network.specs.History.{Among, Sending, superframes, learned, sendings}
 use Rattle.network.specs.Guarantee.{grant_of}
-use Rattle.network.proofs.Books.{Line, Just, AllJust, AllBefore, Landing, landing_of, telling_of, arrivals_of, listed, since, in_flight, Agrees}
+use Rattle.network.proofs.Books.{Line, Just, AllJust, AllBefore, Landing, landing_of, telling_of, arrivals_of, listed}
+use Rattle.network.proofs.Books.{since, in_flight, Agrees}
 use Rattle.network.proofs.FramesAreOwnOrRepeats.{own_is_no_repeat, repeats_are_for_retransmission}
 use Rattle.network.proofs.RepeatsAreOfTheLastTold.{last_told}
 use Rattle.network.proofs.Sound.{frame_with, current, flown, OwnFrame, ToRepeat, AgainFrame, Sound, Steady}
@@ -34,18 +36,22 @@ no_flight b n None e = refl
 no_flight b n (Some x) e = cond-false b _ _ e
 
 -- one arrival is where the bit is one
-arriving : {C : Type 0} (b : Bool) (n : ℕ) (o : Option C) (x : C) (rest : List (Landing C)) → o ≡ Some x → b ≡ true → in_flight b n o ++ rest ≡ record { number = suc n; own = true; cargo = x } ∷ rest
+arriving : {C : Type 0} (b : Bool) (n : ℕ) (o : Option C) (x : C) (rest : List (Landing C)) → o ≡ Some x → b ≡ true
+    → in_flight b n o ++ rest ≡ record { number = suc n; own = true; cargo = x } ∷ rest
 arriving b n o x rest e q = rw (e, q) refl
 
 -- the frame under way is counted beside those whose fates were told
-sends_count : {C : Type 0} (k : ℕ) (o : Option C) (x : C) (book : List (Line C)) → o ≡ Some x → length (since k o ++ map (λ y. y.sent) book) ≡ suc (length book)
+sends_count : {C : Type 0} (k : ℕ) (o : Option C) (x : C) (book : List (Line C)) → o ≡ Some x
+    → length (since k o ++ map (λ y. y.sent) book) ≡ suc (length book)
 sends_count k o x book e = rw e (ap suc (length-map book (λ y. y.sent)))
 
 -- the grant that is found for a full address
-pub grant_found : (m : PlanMeaning) → Rules m → (a : ℕ) (g : Grant) → grant_of m a ≡ Some g → (i : ℕ) × (grant_at m i ≡ Some g) × (g.address ≡ a)
+pub grant_found : (m : PlanMeaning) → Rules m → (a : ℕ) (g : Grant) → grant_of m a ≡ Some g
+    → (i : ℕ) × (grant_at m i ≡ Some g) × (g.address ≡ a)
 grant_found m rules a g found = named (number_with m a) refl found
   where
-    named : (o : Option ℕ) → number_with m a ≡ o → granted m o ≡ Some g → (i : ℕ) × (grant_at m i ≡ Some g) × (g.address ≡ a)
+    named : (o : Option ℕ) → number_with m a ≡ o → granted m o ≡ Some g
+        → (i : ℕ) × (grant_at m i ≡ Some g) × (g.address ≡ a)
     named None e q = absurd cc
     named (Some i) e q =
         let w = (names_addressed m rules a i).0 e in
@@ -54,13 +60,18 @@ grant_found m rules a g found = named (number_with m a) refl found
 
 module _ {C : Type 0} (image : C → List ℕ) (m : PlanMeaning) (rules : Rules m) where
   -- the grant of a frame that starts at a timeslot is found by the coordinator
-  sender_is : (sent : List ℕ) (alike : BitsAlike m sent) (t i : ℕ) (g : Grant) → grant_at m i ≡ Some g → (g.first ≡ t) ⊎ (repeat_start m.numbers sent g ≡ Some t) → granted m (sender_at m sent t) ≡ Some g
+  sender_is : (sent : List ℕ) (alike : BitsAlike m sent) (t i : ℕ) (g : Grant) → grant_at m i ≡ Some g
+      → (g.first ≡ t) ⊎ (repeat_start m.numbers sent g ≡ Some t) → granted m (sender_at m sent t) ≡ Some g
   sender_is sent alike t i g at starts = ap (granted m) ((names_sender m sent rules alike t i).1 (g, at, starts)) ∙ at
 
   -- what the coordinator hears of the device at place e, whose grant is g
-  module _ (e i : ℕ) (g : Grant) (at : grant_at m i ≡ Some g) (opened : Bool) (is_open : opened ≡ true) (gathered sent : List ℕ) (last : ℕ) (v : Device C) (ds : List (Deed C)) (s : Sound image m.numbers e g opened gathered sent last v ds) (aware : learned e ds ≡ true) (t : ℕ) (xs : List ℕ) (above : last < t) where
+  module _ (e i : ℕ) (g : Grant) (at : grant_at m i ≡ Some g) (opened : Bool) (is_open : opened ≡ true)
+      (gathered sent : List ℕ) (last : ℕ) (v : Device C) (ds : List (Deed C))
+      (s : Sound image m.numbers e g opened gathered sent last v ds) (aware : learned e ds ≡ true) (t : ℕ)
+      (xs : List ℕ) (above : last < t) where
     -- a frame from its own timeslot, whose bit is set then
-    module _ (x : C) (own : t ≡ g.first) (flying : v.sent ≡ Some x) (marked : acknowledged m.numbers (marked_with m.numbers gathered g) g.first ≡ true) where
+    module _ (x : C) (own : t ≡ g.first) (flying : v.sent ≡ Some x)
+        (marked : acknowledged m.numbers (marked_with m.numbers gathered g) g.first ≡ true) where
       old_bit : acknowledged m.numbers gathered g.first ≡ false
       old_bit = tell (acknowledged m.numbers gathered g.first) refl
         where
@@ -68,22 +79,31 @@ module _ {C : Type 0} (image : C → List ℕ) (m : PlanMeaning) (rules : Rules 
           tell false q = refl
           tell true q = let late = s.late is_open aware q in absurd (omega arith)
 
-      own_agrees : Agrees (for_retransmission m.numbers) (Some g.simple) e (hand_up t xs g.simple x ∷ ds) v.waiting v.sent (flown opened (learned e ds) (superframes ds)) (acknowledged m.numbers (current opened (learned e ds) (marked_with m.numbers gathered g) sent) g.first) s.book
+      own_agrees : Agrees (for_retransmission m.numbers) (Some g.simple) e
+          (hand_up t xs g.simple x ∷ ds) v.waiting v.sent (flown opened (learned e ds) (superframes ds))
+          (acknowledged m.numbers
+          (current opened (learned e ds) (marked_with m.numbers gathered g) sent) g.first) s.book
       own_agrees =
           let a = s.agrees in
           let r = for_retransmission m.numbers in
           let high : r t ≡ false = ap r own ∙ own_is_no_repeat m rules i g at in
-          let bit : acknowledged m.numbers (current opened (learned e ds) gathered sent) g.first ≡ false = rw (is_open, aware) old_bit in
-          let set : acknowledged m.numbers (current opened (learned e ds) (marked_with m.numbers gathered g) sent) g.first ≡ true = rw (is_open, aware) marked in
-          let number : length (history.own_sendings e r ds) ≡ suc (length s.book) = ap length a.sends ∙ sends_count _ v.sent x s.book flying in
+          let bit : acknowledged m.numbers (current opened (learned e ds) gathered sent) g.first ≡ false =
+          rw (is_open, aware) old_bit in
+          let set : acknowledged m.numbers
+          (current opened (learned e ds) (marked_with m.numbers gathered g) sent) g.first ≡ true =
+          rw (is_open, aware) marked in
+          let number : length (history.own_sendings e r ds) ≡ suc (length s.book) =
+          ap length a.sends ∙ sends_count _ v.sent x s.book flying in
           let before : map landing_of (history.arrivals e r (Some g.simple) ds) ≡ arrivals_of s.book =
-          a.arrives ∙ ap (λ (l : List (Landing C)). l ++ arrivals_of s.book) (no_flight _ (length s.book) v.sent bit) in
+          a.arrives ∙ ap (λ (l : List (Landing C)). l ++ arrivals_of s.book)
+          (no_flight _ (length s.book) v.sent bit) in
           record {
             accepts = a.accepts;
             tells = a.tells;
             sends = a.sends;
             arrives =
-                rw (eq-eqb g.simple g.simple refl, high) (λ p. record { number = number p; own = true; cargo = x } ∷ before p)
+                rw (eq-eqb g.simple g.simple refl, high)
+                (λ p. record { number = number p; own = true; cargo = x } ∷ before p)
                 ∙ sym (arriving _ (length s.book) v.sent x (arrivals_of s.book) flying set);
             just = a.just;
             before = a.before;
@@ -91,9 +111,11 @@ module _ {C : Type 0} (image : C → List ℕ) (m : PlanMeaning) (rules : Rules 
             waits = a.waits;
           }
 
-      own_heard : Sound image m.numbers e g opened (gathering m.numbers t gathered g) sent t v (hand_up t xs g.simple x ∷ ds)
+      own_heard : Sound image m.numbers e g opened (gathering m.numbers t gathered g) sent t v
+          (hand_up t xs g.simple x ∷ ds)
       own_heard =
-          let high : for_retransmission m.numbers t ≡ false = ap (for_retransmission m.numbers) own ∙ own_is_no_repeat m rules i g at in
+          let high : for_retransmission m.numbers t ≡ false =
+          ap (for_retransmission m.numbers) own ∙ own_is_no_repeat m rules i g at in
           rw high (record {
             address = s.address;
             configured = s.configured;
@@ -104,14 +126,25 @@ module _ {C : Type 0} (image : C → List ℕ) (m : PlanMeaning) (rules : Rules 
             late = λ _ _ _. omega arith;
             quiet = λ none. absurd cc;
             due = s.due;
-            frames = λ o y among device superframe. let f = s.frames o y among device superframe in (f.0, ⊎_elim (λ a. inl a) (λ b. inr (still b)) f.1);
+            frames = λ o y among device superframe. let f =
+                s.frames o y among device superframe in (f.0, ⊎_elim (λ a. inl a) (λ b. inr (still b)) f.1);
           })
         where
-          still : {y : Sending} → AgainFrame image m.numbers g sent last v s.book y → AgainFrame image m.numbers g sent t v s.book y
-          still b = record { cargo = b.cargo; to_repeat = b.to_repeat; octets = b.octets; spent = b.spent; once = λ q. let l = b.once q in omega arith }
+          still : {y : Sending} → AgainFrame image m.numbers g sent last v s.book y
+              → AgainFrame image m.numbers g sent t v s.book y
+          still b =
+              record {
+                cargo = b.cargo;
+                to_repeat = b.to_repeat;
+                octets = b.octets;
+                spent = b.spent;
+                once =
+                    λ q. let l = b.once q in omega arith;
+              }
 
     -- a repeat, which sets no bit; it comes before what is sent in the device's own timeslot
-    module _ (x : C) (q : ToRepeat image m.numbers g sent t x s.book) (spent : v.repeat ≡ None) (once : q.top.again ≡ true → t ≤ last) where
+    module _ (x : C) (q : ToRepeat image m.numbers g sent t x s.book) (spent : v.repeat ≡ None)
+        (once : q.top.again ≡ true → t ≤ last) where
       -- a repeat comes before what its sender sends in its own timeslot
       comes_before : t < g.first
       unfolding offsets.before_bits offsets.before_repeats
@@ -132,14 +165,24 @@ module _ {C : Type 0} (image : C → List ℕ) (m : PlanMeaning) (rules : Rules 
       not_yet true e = let l = once e in absurd (omega arith)
 
       abbrev heard_again : Line C
-      heard_again = record { cargo = q.top.cargo; sent = q.top.sent; own = q.top.own; again = true; fate = q.top.fate; online = q.top.online }
+      heard_again =
+          record {
+            cargo = q.top.cargo;
+            sent = q.top.sent;
+            own = q.top.own;
+            again = true;
+            fate = q.top.fate;
+            online =
+                q.top.online;
+          }
 
       just_before : AllJust (q.top ∷ q.rest)
       just_before = subst (λ (l : List (Line C)). AllJust l) q.book_is s.agrees.just
 
       -- the repeat is of the acceptance whose fate was told last
       repeated_now : history.repeated e (for_retransmission m.numbers) ds ≡ length s.book
-      repeated_now = last_told (for_retransmission m.numbers) e opened (learned e ds) is_open aware ds v.waiting v.sent _ _ s.book s.agrees
+      repeated_now = last_told (for_retransmission m.numbers) e opened
+          (learned e ds) is_open aware ds v.waiting v.sent _ _ s.book s.agrees
 
       before_again : AllBefore (superframes ds) (heard_again ∷ q.rest)
       before_again = subst (λ (l : List (Line C)). AllBefore (superframes ds) l) q.book_is s.agrees.before
@@ -158,29 +201,40 @@ module _ {C : Type 0} (image : C → List ℕ) (m : PlanMeaning) (rules : Rules 
           ap (λ (l : List (Line C)). arrivals_of l) q.book_is
           ∙ cond-false _ _ _ (just_before.0.repeated q.fate) ∙ cond-false _ _ _ (not_yet q.top.again refl)
 
-      again_agrees : Agrees (for_retransmission m.numbers) (Some g.simple) e (hand_up t xs g.simple x ∷ ds) v.waiting v.sent (flown opened (learned e ds) (superframes ds)) (acknowledged m.numbers (current opened (learned e ds) gathered sent) g.first) (heard_again ∷ q.rest)
+      again_agrees : Agrees (for_retransmission m.numbers) (Some g.simple) e
+          (hand_up t xs g.simple x ∷ ds) v.waiting v.sent (flown opened (learned e ds) (superframes ds))
+          (acknowledged m.numbers (current opened (learned e ds) gathered sent) g.first) (heard_again ∷ q.rest)
       again_agrees =
           let a = s.agrees in
           let r = for_retransmission m.numbers in
-          let bit : acknowledged m.numbers (current opened (learned e ds) gathered sent) g.first ≡ false = rw (is_open, aware) (bit_zero _ refl) in
+          let bit : acknowledged m.numbers (current opened (learned e ds) gathered sent) g.first ≡ false =
+          rw (is_open, aware) (bit_zero _ refl) in
           let number : history.repeated e r ds ≡ suc (length q.rest) = repeated_now ∙ ap length q.book_is in
           let before : map landing_of (history.arrivals e r (Some g.simple) ds) ≡ arrivals_of q.rest =
-          a.arrives ∙ ap (λ (l : List (Landing C)). l ++ arrivals_of s.book) (no_flight _ (length s.book) v.sent bit) ∙ arrivals_before in
+          a.arrives ∙ ap (λ (l : List (Landing C)). l ++ arrivals_of s.book) (no_flight _ (length s.book) v.sent bit)
+          ∙ arrivals_before in
           record {
-            accepts = a.accepts ∙ ap (λ (l : List (Line C)). listed v.waiting ++ (listed v.sent ++ map (λ y. y.cargo) l)) q.book_is;
+            accepts =
+                a.accepts
+                ∙ ap (λ (l : List (Line C)). listed v.waiting ++ (listed v.sent ++ map (λ y. y.cargo) l)) q.book_is;
             tells = a.tells ∙ ap (λ (l : List (Line C)). map telling_of l) q.book_is;
-            sends = a.sends ∙ ap (λ (l : List (Line C)). since (flown opened (learned e ds) (superframes ds)) v.sent ++ map (λ y. y.sent) l) q.book_is;
+            sends = a.sends
+                ∙ ap (λ (l : List (Line C)). since (flown opened (learned e ds) (superframes ds)) v.sent ++ map
+                (λ y. y.sent) l) q.book_is;
             arrives =
-                rw (eq-eqb g.simple g.simple refl, low) (λ p. record { number = number p; own = false; cargo = sym q.cargo p } ∷ before p)
+                rw (eq-eqb g.simple g.simple refl, low)
+                (λ p. record { number = number p; own = false; cargo = sym q.cargo p } ∷ before p)
                 ∙ sym (cond-false _ _ _ (just_before.0.repeated q.fate))
-                ∙ sym (ap (λ (l : List (Landing C)). l ++ arrivals_of (heard_again ∷ q.rest)) (no_flight _ (suc (length q.rest)) v.sent bit));
+                ∙ sym (ap (λ (l : List (Landing C)). l ++ arrivals_of (heard_again ∷ q.rest))
+                (no_flight _ (suc (length q.rest)) v.sent bit));
             just = (just_again, just_before.1);
             before = before_again;
             under_way = a.under_way;
             waits = a.waits;
           }
 
-      again_heard : Sound image m.numbers e g opened (gathering m.numbers t gathered g) sent t v (hand_up t xs g.simple x ∷ ds)
+      again_heard : Sound image m.numbers e g opened (gathering m.numbers t gathered g) sent t v
+          (hand_up t xs g.simple x ∷ ds)
       again_heard =
           rw low (record {
             address = s.address;
@@ -192,10 +246,12 @@ module _ {C : Type 0} (image : C → List ℕ) (m : PlanMeaning) (rules : Rules 
             late = λ o a b. let l = s.late o a b in omega arith;
             quiet = s.quiet;
             due = λ r some _ _. absurd cc;
-            frames = λ o y among device superframe. let f = s.frames o y among device superframe in (f.0, ⊎_elim (λ a. inl a) (λ b. inr (still b)) f.1);
+            frames = λ o y among device superframe. let f =
+                s.frames o y among device superframe in (f.0, ⊎_elim (λ a. inl a) (λ b. inr (still b)) f.1);
           })
         where
-          still : {y : Sending} → AgainFrame image m.numbers g sent last v s.book y → AgainFrame image m.numbers g sent t v (heard_again ∷ q.rest) y
+          still : {y : Sending} → AgainFrame image m.numbers g sent last v s.book y
+              → AgainFrame image m.numbers g sent t v (heard_again ∷ q.rest) y
           still {y = y} b =
               let same : b.to_repeat.top ∷ b.to_repeat.rest ≡ q.top ∷ q.rest = sym b.to_repeat.book_is ∙ q.book_is in
               let top : b.to_repeat.top ≡ q.top = cc in
@@ -203,7 +259,16 @@ module _ {C : Type 0} (image : C → List ℕ) (m : PlanMeaning) (rules : Rules 
               let slot : y.timeslot ≡ t = cc in
               record {
                 cargo = b.cargo;
-                to_repeat = record { top = heard_again; rest = q.rest; book_is = refl; fate = q.fate; cargo = ap (λ (l : Line C). l.cargo) (sym top) ∙ b.to_repeat.cargo; starts = b.to_repeat.starts };
+                to_repeat =
+                    record {
+                      top = heard_again;
+                      rest = q.rest;
+                      book_is = refl;
+                      fate = q.fate;
+                      cargo =
+                          ap (λ (l : Line C). l.cargo) (sym top) ∙ b.to_repeat.cargo;
+                      starts = b.to_repeat.starts;
+                    };
                 octets = b.octets;
                 spent = b.spent;
                 once = λ _. omega arith;
@@ -211,42 +276,70 @@ module _ {C : Type 0} (image : C → List ℕ) (m : PlanMeaning) (rules : Rules 
 
   -- the cargo laws, and what marking does to bits
   module _ (short : (x : C) → length (image x) ≤ 124) (apart : Apart image)
-      (marked_own : (i : ℕ) (g : Grant) (xs : List ℕ) → grant_at m i ≡ Some g → length xs ≡ 32 → acknowledged m.numbers (marked_with m.numbers xs g) g.first ≡ true)
-      (marked_other : (i j : ℕ) (g h : Grant) (xs : List ℕ) → grant_at m i ≡ Some g → grant_at m j ≡ Some h → (i ≡ j → ⊥) → length xs ≡ 32 → acknowledged m.numbers (marked_with m.numbers xs g) h.first ≡ acknowledged m.numbers xs h.first) where
+      (marked_own : (i : ℕ) (g : Grant) (xs : List ℕ) → grant_at m i ≡ Some g → length xs ≡ 32
+      → acknowledged m.numbers (marked_with m.numbers xs g) g.first ≡ true)
+      (marked_other : (i j : ℕ) (g h : Grant) (xs : List ℕ) → grant_at m i ≡ Some g → grant_at m j ≡ Some h
+      → (i ≡ j → ⊥) → length xs ≡ 32 → acknowledged m.numbers
+      (marked_with m.numbers xs g) h.first ≡ acknowledged m.numbers xs h.first) where
     -- cargo is read out of its frame as it was
     read_out : (x y : C) (xs : List ℕ) → xs ≡ frame_with image m.numbers x → Receives image xs (Ok y) → x ≡ y
     read_out x y xs e received =
         let q = delivered image apart short xs (Ok y) received x e in
         let z : y ≡ x = cc in sym z
 
-    pub heard_of : (e i : ℕ) (g : Grant) → grant_at m i ≡ Some g → (k : Inner) (v : Device C) (ds : List (Deed C)) → Steady m k ds → k.opened ≡ true → Sound image m.numbers e g k.opened k.gathered k.sent k.last v ds → (t : ℕ) (xs : List ℕ) → k.last < t → (y : Sending) → Among y (sendings ds) → y.device ≡ e → y.superframe ≡ superframes ds → y.timeslot ≡ t → y.octets ≡ xs → (x : C) → Receives image xs (Ok x) → (sending m k t ≡ Some g) × Sound image m.numbers e g k.opened (gathering m.numbers t k.gathered g) k.sent t v (hand_up t xs g.simple x ∷ ds)
+    pub heard_of : (e i : ℕ) (g : Grant) → grant_at m i ≡ Some g → (k : Inner) (v : Device C) (ds : List (Deed C))
+        → Steady m k ds → k.opened ≡ true → Sound image m.numbers e g k.opened k.gathered k.sent k.last v ds
+        → (t : ℕ) (xs : List ℕ) → k.last < t → (y : Sending) → Among y (sendings ds) → y.device ≡ e
+        → y.superframe ≡ superframes ds → y.timeslot ≡ t → y.octets ≡ xs → (x : C) → Receives image xs (Ok x)
+        → (sending m k t ≡ Some g) × Sound image m.numbers e g k.opened
+        (gathering m.numbers t k.gathered g) k.sent t v (hand_up t xs g.simple x ∷ ds)
     heard_of e i g at k v ds steady opened s t xs above y among device superframe timeslot octets x received =
         ⊎_elim own again f.1
       where
-        f : (learned e ds ≡ true) × (OwnFrame image m.numbers g v y ⊎ AgainFrame image m.numbers g k.sent k.last v s.book y)
+        f : (learned e ds ≡ true)
+            × (OwnFrame image m.numbers g v y ⊎ AgainFrame image m.numbers g k.sent k.last v s.book y)
         f = s.frames opened y among device superframe
 
-        own : OwnFrame image m.numbers g v y → (sending m k t ≡ Some g) × Sound image m.numbers e g k.opened (gathering m.numbers t k.gathered g) k.sent t v (hand_up t xs g.simple x ∷ ds)
+        own : OwnFrame image m.numbers g v y
+            → (sending m k t ≡ Some g) × Sound image m.numbers e g k.opened
+            (gathering m.numbers t k.gathered g) k.sent t v (hand_up t xs g.simple x ∷ ds)
         own w =
             let same = read_out w.cargo x xs (sym octets ∙ w.octets) received in
             let slot : t ≡ g.first = sym timeslot ∙ w.timeslot in (
               sender_is k.sent steady.sent_alike t i g at (inl (sym slot)),
-              subst (λ (z : C). Sound image m.numbers e g k.opened (gathering m.numbers t k.gathered g) k.sent t v (hand_up t xs g.simple z ∷ ds)) same
+              subst (λ (z : C). Sound image m.numbers e g k.opened (gathering m.numbers t k.gathered g) k.sent t v
+                  (hand_up t xs g.simple z ∷ ds)) same
                   (own_heard e i g at k.opened opened k.gathered k.sent k.last v ds s f.0 t xs above w.cargo slot w.sent (marked_own i g k.gathered at steady.size)),
             )
 
-        again : AgainFrame image m.numbers g k.sent k.last v s.book y → (sending m k t ≡ Some g) × Sound image m.numbers e g k.opened (gathering m.numbers t k.gathered g) k.sent t v (hand_up t xs g.simple x ∷ ds)
+        again : AgainFrame image m.numbers g k.sent k.last v s.book y
+            → (sending m k t ≡ Some g) × Sound image m.numbers e g k.opened
+            (gathering m.numbers t k.gathered g) k.sent t v (hand_up t xs g.simple x ∷ ds)
         again w =
             let same = read_out w.cargo x xs (sym octets ∙ w.octets) received in
             let q = w.to_repeat in
-            let there : ToRepeat image m.numbers g k.sent t w.cargo s.book = record { top = q.top; rest = q.rest; book_is = q.book_is; fate = q.fate; cargo = q.cargo; starts = q.starts ∙ ap Some timeslot } in (
+            let there : ToRepeat image m.numbers g k.sent t w.cargo s.book =
+            record {
+              top = q.top;
+              rest = q.rest;
+              book_is = q.book_is;
+              fate = q.fate;
+              cargo = q.cargo;
+              starts =
+                  q.starts ∙ ap Some timeslot;
+            } in (
               sender_is k.sent steady.sent_alike t i g at (inr there.starts),
-              subst (λ (z : C). Sound image m.numbers e g k.opened (gathering m.numbers t k.gathered g) k.sent t v (hand_up t xs g.simple z ∷ ds)) same
+              subst (λ (z : C). Sound image m.numbers e g k.opened (gathering m.numbers t k.gathered g) k.sent t v
+                  (hand_up t xs g.simple z ∷ ds)) same
                   (again_heard e i g at k.opened opened k.gathered k.sent k.last v ds s f.0 t xs above w.cargo there w.spent (λ a. let l = w.once a in omega arith)),
             )
 
     -- the devices that did not send it: no arrival is theirs, and their bits stay
-    pub heard_elsewhere : (e i j : ℕ) (g h : Grant) → grant_at m i ≡ Some g → grant_at m j ≡ Some h → (i ≡ j → ⊥) → (k : Inner) (v : Device C) (ds : List (Deed C)) → Steady m k ds → Sound image m.numbers e h k.opened k.gathered k.sent k.last v ds → (t : ℕ) (xs : List ℕ) (x : C) → k.last < t → Sound image m.numbers e h k.opened (gathering m.numbers t k.gathered g) k.sent t v (hand_up t xs g.simple x ∷ ds)
+    pub heard_elsewhere : (e i j : ℕ) (g h : Grant) → grant_at m i ≡ Some g → grant_at m j ≡ Some h → (i ≡ j → ⊥)
+        → (k : Inner) (v : Device C) (ds : List (Deed C)) → Steady m k ds
+        → Sound image m.numbers e h k.opened k.gathered k.sent k.last v ds → (t : ℕ) (xs : List ℕ) (x : C)
+        → k.last < t → Sound image m.numbers e h k.opened (gathering m.numbers t k.gathered g) k.sent t v
+        (hand_up t xs g.simple x ∷ ds)
     heard_elsewhere e i j g h here there differ k v ds steady s t xs x above = record {
       address = s.address;
       configured = s.configured;
@@ -257,7 +350,9 @@ module _ {C : Type 0} (image : C → List ℕ) (m : PlanMeaning) (rules : Rules 
         tells = s.agrees.tells;
         sends = s.agrees.sends;
         arrives = rw (ne_eqb _ _ other)
-            (subst (λ (b : Bool). map landing_of (history.arrivals e (for_retransmission m.numbers) (Some h.simple) ds) ≡ in_flight b (length s.book) v.sent ++ arrivals_of s.book)
+            (subst (λ (b : Bool). map landing_of
+            (history.arrivals e (for_retransmission m.numbers) (Some h.simple) ds) ≡ in_flight b
+            (length s.book) v.sent ++ arrivals_of s.book)
             (sym same_current) s.agrees.arrives);
         just = s.agrees.just;
         before = s.agrees.before;
@@ -268,25 +363,43 @@ module _ {C : Type 0} (image : C → List ℕ) (m : PlanMeaning) (rules : Rules 
       late = λ o u b. let l = s.late o u (sym same_bit ∙ b) in omega arith;
       quiet = λ none. same_current ∙ s.quiet none;
       due = s.due;
-      frames = λ o y among device superframe. let f = s.frames o y among device superframe in (f.0, ⊎_elim (λ b. inl b) (λ b. inr (still b)) f.1);
+      frames = λ o y among device superframe. let f =
+          s.frames o y among device superframe in (f.0, ⊎_elim (λ b. inl b) (λ b. inr (still b)) f.1);
     }
       where
         other : g.simple ≡ h.simple → ⊥
         other q = differ (addresses_differ m rules i j g h here there (inr q))
 
-        bits_of : (b : Bool) → acknowledged m.numbers (cond b k.gathered (marked_with m.numbers k.gathered g)) h.first ≡ acknowledged m.numbers k.gathered h.first
+        bits_of : (b : Bool) → acknowledged m.numbers
+            (cond b k.gathered
+            (marked_with m.numbers k.gathered g)) h.first ≡ acknowledged m.numbers k.gathered h.first
         bits_of true = refl
         bits_of false = marked_other i j g h k.gathered here there differ steady.size
 
-        same_bit : acknowledged m.numbers (gathering m.numbers t k.gathered g) h.first ≡ acknowledged m.numbers k.gathered h.first
+        same_bit : acknowledged m.numbers
+            (gathering m.numbers t k.gathered g) h.first ≡ acknowledged m.numbers k.gathered h.first
         same_bit = bits_of (for_retransmission m.numbers t)
 
-        current_is : (b : Bool) → acknowledged m.numbers (cond b (gathering m.numbers t k.gathered g) k.sent) h.first ≡ acknowledged m.numbers (cond b k.gathered k.sent) h.first
+        current_is : (b : Bool) → acknowledged m.numbers
+            (cond b (gathering m.numbers t k.gathered g) k.sent) h.first ≡ acknowledged m.numbers
+            (cond b k.gathered k.sent) h.first
         current_is true = same_bit
         current_is false = refl
 
-        same_current : acknowledged m.numbers (current k.opened (learned e ds) (gathering m.numbers t k.gathered g) k.sent) h.first ≡ acknowledged m.numbers (current k.opened (learned e ds) k.gathered k.sent) h.first
+        same_current : acknowledged m.numbers
+            (current k.opened (learned e ds)
+            (gathering m.numbers t k.gathered g) k.sent) h.first ≡ acknowledged m.numbers
+            (current k.opened (learned e ds) k.gathered k.sent) h.first
         same_current = current_is (k.opened && learned e ds)
 
-        still : {y : Sending} → AgainFrame image m.numbers h k.sent k.last v s.book y → AgainFrame image m.numbers h k.sent t v s.book y
-        still b = record { cargo = b.cargo; to_repeat = b.to_repeat; octets = b.octets; spent = b.spent; once = λ q. let l = b.once q in omega arith }
+        still : {y : Sending} → AgainFrame image m.numbers h k.sent k.last v s.book y
+            → AgainFrame image m.numbers h k.sent t v s.book y
+        still b =
+            record {
+              cargo = b.cargo;
+              to_repeat = b.to_repeat;
+              octets = b.octets;
+              spent = b.spent;
+              once = λ q. let l =
+                  b.once q in omega arith;
+            }

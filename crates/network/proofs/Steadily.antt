@@ -1,5 +1,8 @@
--- The coordinator's side of a run: what marking does to the bits, what hearing tells, and that what is held of the coordinator is kept.
-use Rattle.std.proofs.Common.{◌≡◌, ℕ, zero, suc, ◌+◌, ◌<◌, Bool, true, false, cond, not, ◌&&◌, ◌||◌, eqb, ltb, leb, List, [], ◌∷◌, length, take, drop, is_ok, Some, None, Ok, Err, Option, Result, sym, refl, ap, ◌∙◌, subst, inl, inr, arith}
+-- The coordinator's side of a run: what marking does to the bits, what hearing tells, and that what is held of the
+-- coordinator is kept.
+use Rattle.std.proofs.Common.{◌≡◌, ℕ, zero, suc, ◌+◌, ◌<◌, Bool, true, false, cond, not, ◌&&◌, ◌||◌, eqb, ltb, leb}
+use Rattle.std.proofs.Common.{List, [], ◌∷◌, length, take, drop, is_ok, Some, None, Ok, Err, Option, Result, sym}
+use Rattle.std.proofs.Common.{refl, ap, ◌∙◌, subst, inl, inr, arith}
 use lib.ListN.{length-replicate}
 use Rattle.std.proofs.lemmas.List.{take_at}
 use Rattle.std.proofs.lemmas.Bool.{and_parts, cond-false, leb-false, lt-ltb, not-false}
@@ -10,7 +13,8 @@ use Rattle.frame.specs.declared.frames.Acknowledged.TheVariants as acknowledgmen
 use Rattle.frame.specs.declared.frames.Command.{Command}
 use Rattle.frame.specs.declared.frames.Command.TheVariants as commands
 use Rattle.frame.specs.Formats.{Told, reading}
-use Rattle.frame.specs.Messages.{Message, online_beacon, discovery_beacon, configuration_beacon, reset_beacon, data_frame, acknowledgment_frame, command_frame, octets_of}
+use Rattle.frame.specs.Messages.{Message, online_beacon, discovery_beacon, configuration_beacon, reset_beacon}
+use Rattle.frame.specs.Messages.{data_frame, acknowledgment_frame, command_frame, octets_of}
 use Rattle.frame.specs.Refusals.{fault}
 use Rattle.frame.specs.Writing.{fitting, left_by}
 use Rattle.plan.specs.declared.grant.Grant.{Grant}
@@ -34,10 +38,17 @@ use Rattle.coordinator.specs.declared.state.Opened.{Opened}
 use Rattle.coordinator.specs.declared.state.OpenSuperframe.{OpenSuperframe}
 use Rattle.coordinator.specs.Beacons.{state_of, configuration_for}
 use Rattle.coordinator.specs.Steps as coordinator
-use Rattle.coordinator.specs.Steps.{is_online, is_managing, is_configuring, is_open, in_mode, mode_state, beacon_of, opened_as, open_answer, open_memory, begun, open_state, somebody, sending, listening, heard_from, HearsFrom, Hears, granted, gathering, hear_state, Managed, discovered, handing, requested, thanked, acknowledging, commanded, managed_by, managed_as, managing, replying, reply_memory, noted, reply_state, manage_answer, manage_memory, manage_state, ended, close_answer, close_state}
+use Rattle.coordinator.specs.Steps.{is_online, is_managing, is_configuring, is_open, in_mode, mode_state, beacon_of}
+use Rattle.coordinator.specs.Steps.{opened_as, open_answer, open_memory, begun, open_state, somebody, sending}
+use Rattle.coordinator.specs.Steps.{listening, heard_from, HearsFrom, Hears, granted, gathering, hear_state, Managed}
+use Rattle.coordinator.specs.Steps.{discovered, handing, requested, thanked, acknowledging, commanded, managed_by}
+use Rattle.coordinator.specs.Steps.{managed_as, managing, replying, reply_memory, noted, reply_state, manage_answer}
+use Rattle.coordinator.specs.Steps.{manage_memory, manage_state, ended, close_answer, close_state}
 use Rattle.device.specs.declared.fate.Fate.{Fate}
-use Rattle.network.specs.Calls.{set_mode, opens, hears, hears_management, closes, takes_beacon, misses_beacon, is_offered, sends, writes_management, takes_management}
-use Rattle.network.specs.Deeds.{Deed, opening, closing, hand_up, reply, news, acceptance, transmission, taking, nothing, sent_deed, deed}
+use Rattle.network.specs.Calls.{set_mode, opens, hears, hears_management, closes, takes_beacon, misses_beacon}
+use Rattle.network.specs.Calls.{is_offered, sends, writes_management, takes_management}
+use Rattle.network.specs.Deeds.{Deed, opening, closing, hand_up, reply, news, acceptance, transmission, taking}
+use Rattle.network.specs.Deeds.{nothing, sent_deed, deed}
 use Rattle.network.specs.History.{Sending, superframes, announced, replies, sendings}
 use Rattle.network.proofs.Sound.{Steady, ReplyOf}
 
@@ -52,7 +63,8 @@ either a false x e = rw e refl
 
 -- what is acknowledged in a marked bitmap: what the grant holds, and what was before
 module _ (n : Numbers) (xs : List ℕ) (g : Grant) (len : length xs ≡ 32) where
-  acknowledged_then : (t : ℕ) → before_bits n < t → place n t < 256 → acknowledged n (marked_with n xs g) t ≡ (holding t g || acknowledged n xs t)
+  acknowledged_then : (t : ℕ) → before_bits n < t → place n t < 256
+      → acknowledged n (marked_with n xs g) t ≡ (holding t g || acknowledged n xs t)
   acknowledged_then t above fit =
       let there : timeslot_with n (place n t) ≡ t = omega arith in
       let r = lt-ltb _ _ above in
@@ -61,17 +73,22 @@ module _ (n : Numbers) (xs : List ℕ) (g : Grant) (len : length xs ≡ 32) wher
       ap (λ (x : ℕ). eqb x 1) (marks n xs g len (place n t))
       ∙ ap (λ (s : ℕ). eqb (cond (ltb (place n t) 256 && holding s g) 1 (bit xs (place n t))) 1) there
       ∙ either (ltb (place n t) 256) (holding t g) (bit xs (place n t)) (lt-ltb _ _ fit) in
-      ap (λ (b : Bool). b && eqb (bit ys (place n t)) 1) r ∙ e ∙ sym (ap (λ (b : Bool). holding t g || (b && eqb (bit xs (place n t)) 1)) r)
+      ap (λ (b : Bool). b && eqb (bit ys (place n t)) 1) r ∙ e
+      ∙ sym (ap (λ (b : Bool). holding t g || (b && eqb (bit xs (place n t)) 1)) r)
 
 module _ (m : PlanMeaning) (rules : Rules m) where
-  pub marked_own : (i : ℕ) (g : Grant) (xs : List ℕ) → grant_at m i ≡ Some g → length xs ≡ 32 → acknowledged m.numbers (marked_with m.numbers xs g) g.first ≡ true
+  pub marked_own : (i : ℕ) (g : Grant) (xs : List ℕ) → grant_at m i ≡ Some g → length xs ≡ 32
+      → acknowledged m.numbers (marked_with m.numbers xs g) g.first ≡ true
   marked_own i g xs at len =
       let w = grant_within m rules i g at in
       let few = rules.framed.numbers.timeslots in
-      acknowledged_then m.numbers xs g len g.first (own_has_bit m rules i g at g.first (omega arith, omega arith)) (omega arith)
+      acknowledged_then m.numbers xs g len g.first (own_has_bit m rules i g at g.first (omega arith, omega arith))
+      (omega arith)
       ∙ ap (λ (b : Bool). b || acknowledged m.numbers xs g.first) (held_now g.first g (omega arith, omega arith))
 
-  pub marked_other : (i j : ℕ) (g h : Grant) (xs : List ℕ) → grant_at m i ≡ Some g → grant_at m j ≡ Some h → (i ≡ j → ⊥) → length xs ≡ 32 → acknowledged m.numbers (marked_with m.numbers xs g) h.first ≡ acknowledged m.numbers xs h.first
+  pub marked_other : (i j : ℕ) (g h : Grant) (xs : List ℕ) → grant_at m i ≡ Some g → grant_at m j ≡ Some h
+      → (i ≡ j → ⊥) → length xs ≡ 32 → acknowledged m.numbers
+      (marked_with m.numbers xs g) h.first ≡ acknowledged m.numbers xs h.first
   marked_other i j g h xs here there differ len =
       let v = grant_within m rules i g here in
       let w = grant_within m rules j h there in
@@ -80,20 +97,25 @@ module _ (m : PlanMeaning) (rules : Rules m) where
         | inl e ↦ held_before h.first g e
         | inr e ↦ held_later h.first g (omega arith)
       ] in
-      acknowledged_then m.numbers xs g len h.first (own_has_bit m rules j h there h.first (omega arith, omega arith)) (omega arith)
+      acknowledged_then m.numbers xs g len h.first (own_has_bit m rules j h there h.first (omega arith, omega arith))
+      (omega arith)
       ∙ ap (λ (b : Bool). b || acknowledged m.numbers xs h.first) not_held
 
-  pub marked_alike : (i : ℕ) (g : Grant) (xs : List ℕ) → grant_at m i ≡ Some g → length xs ≡ 32 → BitsAlike m xs → BitsAlike m (marked_with m.numbers xs g)
-  marked_alike i g xs at len alike = stays_alike m.numbers xs (marked_with m.numbers xs g) g (marks m.numbers xs g len) m i rules refl at alike
+  pub marked_alike : (i : ℕ) (g : Grant) (xs : List ℕ) → grant_at m i ≡ Some g → length xs ≡ 32 → BitsAlike m xs
+      → BitsAlike m (marked_with m.numbers xs g)
+  marked_alike i g xs at len alike =
+      stays_alike m.numbers xs (marked_with m.numbers xs g) g (marks m.numbers xs g len) m i rules refl at alike
 
-gathering_of : (b : Bool) (n : Numbers) (xs : List ℕ) (g : Grant) → length (cond b xs (marked_with n xs g)) ≡ length xs
+gathering_of : (b : Bool) (n : Numbers) (xs : List ℕ) (g : Grant)
+    → length (cond b xs (marked_with n xs g)) ≡ length xs
 gathering_of true n xs g = refl
 gathering_of false n xs g = marked_size n xs g
 
 pub gathering_size : (n : Numbers) (t : ℕ) (xs : List ℕ) (g : Grant) → length (gathering n t xs g) ≡ length xs
 gathering_size n t xs g = gathering_of (for_retransmission n t) n xs g
 
-module _ (m : PlanMeaning) (rules : Rules m) (i : ℕ) (g : Grant) (xs : List ℕ) (at : grant_at m i ≡ Some g) (len : length xs ≡ 32) (alike : BitsAlike m xs) where
+module _ (m : PlanMeaning) (rules : Rules m) (i : ℕ) (g : Grant) (xs : List ℕ) (at : grant_at m i ≡ Some g)
+    (len : length xs ≡ 32) (alike : BitsAlike m xs) where
   gathered_of : (b : Bool) → BitsAlike m (cond b xs (marked_with m.numbers xs g))
   gathered_of true = alike
   gathered_of false = marked_alike m rules i g xs at len alike
@@ -104,7 +126,8 @@ module _ (m : PlanMeaning) (rules : Rules m) (i : ℕ) (g : Grant) (xs : List �
 -- Hearing.
 
 module _ (f1 f2 f3 f4 : Fault) (r : Result Grant Fault) (g : Grant) where
-  passed : (a b c d : Bool) → cond a (Err f1) (cond b (Err f2) (cond c (Err f3) (cond d (Err f4) r))) ≡ Ok g → (a ≡ false) × (b ≡ false) × (c ≡ false) × (d ≡ false) × (r ≡ Ok g)
+  passed : (a b c d : Bool) → cond a (Err f1) (cond b (Err f2) (cond c (Err f3) (cond d (Err f4) r))) ≡ Ok g
+      → (a ≡ false) × (b ≡ false) × (c ≡ false) × (d ≡ false) × (r ≡ Ok g)
   passed true b c d e = absurd cc
   passed false true c d e = absurd cc
   passed false false true d e = absurd cc
@@ -116,32 +139,44 @@ somebody_is t None g e = absurd cc
 somebody_is t (Some h) g e = let q : h ≡ g = cc in ap Some q
 
 -- what a grant that is listened to tells
-pub listened : (m : PlanMeaning) (k : Inner) (j t : ℕ) (g : Grant) → listening m k j t ≡ Ok g → (sending m k t ≡ Some g) × (k.opened ≡ true) × (k.last < t) × (is_online (state_of k.mode) ≡ true)
+pub listened : (m : PlanMeaning) (k : Inner) (j t : ℕ) (g : Grant) → listening m k j t ≡ Ok g
+    → (sending m k t ≡ Some g) × (k.opened ≡ true) × (k.last < t) × (is_online (state_of k.mode) ≡ true)
 listened m k j t g e =
-    let p = passed (fault refusal.Superframe 0) (fault refusal.Mode 0) (fault refusal.Timeslot t) (fault refusal.Late t) (somebody t (sending m k t)) g
-    (not (is_open k j)) (not (is_online (state_of k.mode))) (eqb t 0 || ltb m.numbers.timeslots t) (leb t k.last) e in
-    (somebody_is t (sending m k t) g p.4, (and_parts k.opened (eqb j k.number) (not-false _ p.0)).0, leb-false t k.last p.3, not-false _ p.1)
+    let p = passed (fault refusal.Superframe 0) (fault refusal.Mode 0) (fault refusal.Timeslot t)
+    (fault refusal.Late t) (somebody t (sending m k t)) g
+    (not (is_open k j)) (not (is_online (state_of k.mode))) (eqb t 0 || ltb m.numbers.timeslots t) (leb t k.last) e in (
+      somebody_is t (sending m k t) g p.4,
+      (and_parts k.opened (eqb j k.number) (not-false _ p.0)).0,
+      leb-false t k.last p.3,
+      not-false _ p.1,
+    )
 
 module _ {C : Type 0} (image : C → List ℕ) (n : Numbers) (xs : List ℕ) (h : Heard C) where
-  small_enough : (b : Bool) (g : Grant) (c : C) → Ok h ≡ cond b (Err (fault refusal.Size 0)) (Ok (record { simple = g.simple; cargo = c })) → (h.simple ≡ g.simple) × (h.cargo ≡ c)
+  small_enough : (b : Bool) (g : Grant) (c : C)
+      → Ok h ≡ cond b (Err (fault refusal.Size 0)) (Ok (record { simple = g.simple; cargo = c }))
+      → (h.simple ≡ g.simple) × (h.cargo ≡ c)
   small_enough true g c e = absurd cc
   small_enough false g c e =
       let same : h ≡ record { simple = g.simple; cargo = c } = cc in
       (ap (λ (x : Heard C). x.simple) same, ap (λ (x : Heard C). x.cargo) same)
 
-  received_as : (g : Grant) (received : Result C Fault) → Receives image xs received → Ok h ≡ heard_from image n g received → (h.simple ≡ g.simple) × Receives image xs (Ok h.cargo)
+  received_as : (g : Grant) (received : Result C Fault) → Receives image xs received
+      → Ok h ≡ heard_from image n g received → (h.simple ≡ g.simple) × Receives image xs (Ok h.cargo)
   received_as g (Err f) r e = absurd cc
   received_as g (Ok c) r e =
       let p = small_enough (ltb (carried n.size g) (length (image c))) g c e in
       (p.0, subst (λ (x : C). Receives image xs (Ok x)) (sym p.1) r)
 
-  heard_as : (l : Result Grant Fault) → HearsFrom image n l xs (Ok h) → (g : Grant) × (l ≡ Ok g) × (h.simple ≡ g.simple) × Receives image xs (Ok h.cargo)
+  heard_as : (l : Result Grant Fault) → HearsFrom image n l xs (Ok h)
+      → (g : Grant) × (l ≡ Ok g) × (h.simple ≡ g.simple) × Receives image xs (Ok h.cargo)
   heard_as (Err f) e = absurd cc
   heard_as (Ok g) e = let p = received_as g e.0 e.1 e.2 in (g, refl, p.0, p.1)
 
 module _ {C : Type 0} (image : C → List ℕ) (m : PlanMeaning) (k : Inner) where
   -- what an accepted hearing says
-  pub heard_tells : (j t : ℕ) (xs : List ℕ) (h : Heard C) → Hears image m k j t xs (Ok h) → (g : Grant) × (sending m k t ≡ Some g) × (k.opened ≡ true) × (k.last < t) × (h.simple ≡ g.simple) × Receives image xs (Ok h.cargo)
+  pub heard_tells : (j t : ℕ) (xs : List ℕ) (h : Heard C) → Hears image m k j t xs (Ok h)
+      → (g : Grant) × (sending m k t ≡ Some g) × (k.opened ≡ true) × (k.last < t) × (h.simple ≡ g.simple)
+      × Receives image xs (Ok h.cargo)
   heard_tells j t xs h e =
       let p = heard_as image m.numbers xs h (listening m k j t) e in
       let q = listened m k j t p.0 p.1 in
@@ -149,7 +184,8 @@ module _ {C : Type 0} (image : C → List ℕ) (m : PlanMeaning) (k : Inner) whe
 
 -- Deeds that leave the coordinator as it is.
 module _ {C : Type 0} (m : PlanMeaning) (k : Inner) (ds : List (Deed C)) where
-  still_steady : (es : List (Deed C)) → announced es ≡ announced ds → superframes es ≡ superframes ds → replies es ≡ replies ds → sendings es ≡ sendings ds → Steady m k ds → Steady m k es
+  still_steady : (es : List (Deed C)) → announced es ≡ announced ds → superframes es ≡ superframes ds
+      → replies es ≡ replies ds → sendings es ≡ sendings ds → Steady m k ds → Steady m k es
   still_steady es announces counts answers frames s = record {
     size = s.size;
     gathered_alike = s.gathered_alike;
@@ -189,14 +225,16 @@ module _ {C : Type 0} (m : PlanMeaning) (k : Inner) (ds : List (Deed C)) where
   taking_steady d xs s = still_steady (taking d xs ∷ ds) refl refl refl refl s
 
   -- the calls of a device
-  pub beacon_steady : (d : ℕ) (xs : List ℕ) (r : Result (Option Fate) Fault) → Steady m k ds → Steady m k (deed (takes_beacon d xs r) ∷ ds)
+  pub beacon_steady : (d : ℕ) (xs : List ℕ) (r : Result (Option Fate) Fault) → Steady m k ds
+      → Steady m k (deed (takes_beacon d xs r) ∷ ds)
   beacon_steady d xs (Ok φ) s = news_steady d (Some xs) φ s
   beacon_steady d xs (Err f) s = idle_steady s
 
   pub missed_steady : (d : ℕ) (r : Option Fate) → Steady m k ds → Steady m k (deed (misses_beacon d r) ∷ ds)
   missed_steady d r s = news_steady d None r s
 
-  pub offered_steady : (d : ℕ) (x : C) (r : Result (Unit {0}) Fault) → Steady m k ds → Steady m k (deed (is_offered d x r) ∷ ds)
+  pub offered_steady : (d : ℕ) (x : C) (r : Result (Unit {0}) Fault) → Steady m k ds
+      → Steady m k (deed (is_offered d x r) ∷ ds)
   offered_steady d x (Ok u) s = acceptance_steady d x s
   offered_steady d x (Err f) s = idle_steady s
 
@@ -204,14 +242,17 @@ module _ {C : Type 0} (m : PlanMeaning) (k : Inner) (ds : List (Deed C)) where
   sent_so d t zero memory s = idle_steady s
   sent_so d t (suc n) memory s = transmission_steady d t (take (suc n) memory) s
 
-  pub sent_steady : (d t : ℕ) (buffer : List ℕ) (r : Result ℕ Fault) (memory : List ℕ) → Steady m k ds → Steady m k (deed (sends d t buffer r memory) ∷ ds)
+  pub sent_steady : (d t : ℕ) (buffer : List ℕ) (r : Result ℕ Fault) (memory : List ℕ) → Steady m k ds
+      → Steady m k (deed (sends d t buffer r memory) ∷ ds)
   sent_steady d t buffer (Ok n) memory s = sent_so d t n memory s
   sent_steady d t buffer (Err f) memory s = idle_steady s
 
-  pub written_steady : (d : ℕ) (buffer : List ℕ) (r : Result ℕ Fault) (memory : List ℕ) → Steady m k ds → Steady m k (deed (writes_management d buffer r memory) ∷ ds)
+  pub written_steady : (d : ℕ) (buffer : List ℕ) (r : Result ℕ Fault) (memory : List ℕ) → Steady m k ds
+      → Steady m k (deed (writes_management d buffer r memory) ∷ ds)
   written_steady d buffer r memory s = idle_steady s
 
-  pub took_steady : (d : ℕ) (xs : List ℕ) (r : Result (Unit {0}) Fault) → Steady m k ds → Steady m k (deed (takes_management d xs r) ∷ ds)
+  pub took_steady : (d : ℕ) (xs : List ℕ) (r : Result (Unit {0}) Fault) → Steady m k ds
+      → Steady m k (deed (takes_management d xs r) ∷ ds)
   took_steady d xs (Ok u) s = taking_steady d xs s
   took_steady d xs (Err f) s = idle_steady s
 
@@ -233,7 +274,8 @@ begun_steady C m = record {
 -- Setting the mode, opening and closing.
 
 module _ {C : Type 0} (m : PlanMeaning) (k : Inner) (ds : List (Deed C)) where
-  mode_so : (mode : Mode) (b : Bool) → k.opened ≡ b → Steady m k ds → Steady m (cond b k (in_mode mode k)) (nothing ∷ ds)
+  mode_so : (mode : Mode) (b : Bool) → k.opened ≡ b → Steady m k ds
+      → Steady m (cond b k (in_mode mode k)) (nothing ∷ ds)
   mode_so mode true e s = idle_steady m k ds s
   mode_so mode false e s = record {
     size = s.size;
@@ -247,16 +289,20 @@ module _ {C : Type 0} (m : PlanMeaning) (k : Inner) (ds : List (Deed C)) where
   }
 
   -- the mode changes only while no superframe is open, so the beacon that was announced stays
-  pub mode_steady : (mode : Mode) (r : Result (Unit {0}) Fault) → Steady m k ds → Steady m (mode_state k mode) (deed (set_mode mode r) ∷ ds)
+  pub mode_steady : (mode : Mode) (r : Result (Unit {0}) Fault) → Steady m k ds
+      → Steady m (mode_state k mode) (deed (set_mode mode r) ∷ ds)
   mode_steady mode r s = mode_so mode k.opened refl s
 
 -- octets that fit stand at the start of the buffer
-fits_whole : (b : Bool) (xs : List ℕ) (l : ℕ) → cond b (Err (fault refusal.Space 0)) (Ok (length xs)) ≡ Ok l → length xs ≡ l
+fits_whole : (b : Bool) (xs : List ℕ) (l : ℕ) → cond b (Err (fault refusal.Space 0)) (Ok (length xs)) ≡ Ok l
+    → length xs ≡ l
 fits_whole true xs l e = absurd cc
 fits_whole false xs l e = cc
 
-pub fitted : (xs buffer memory : List ℕ) (l : ℕ) → fitting xs buffer ≡ Ok l → memory ≡ left_by (Ok l) xs buffer → take l memory ≡ xs
-fitted xs buffer memory l e f = ap (take l) f ∙ take_at xs (drop (length xs) buffer) l (fits_whole (ltb (length buffer) (length xs)) xs l e)
+pub fitted : (xs buffer memory : List ℕ) (l : ℕ) → fitting xs buffer ≡ Ok l → memory ≡ left_by (Ok l) xs buffer
+    → take l memory ≡ xs
+fitted xs buffer memory l e f =
+    ap (take l) f ∙ take_at xs (drop (length xs) buffer) l (fits_whole (ltb (length buffer) (length xs)) xs l e)
 
 module _ {C : Type 0} (m : PlanMeaning) (k : Inner) (ds : List (Deed C)) where
   opened_so : (xs : List ℕ) → xs ≡ beacon_of m.numbers k → Steady m k ds → Steady m (begun k) (opening xs ∷ ds)
@@ -272,20 +318,28 @@ module _ {C : Type 0} (m : PlanMeaning) (k : Inner) (ds : List (Deed C)) where
   }
 
   -- an opening that is not refused has written the beacon
-  opening_fits : (b : Bool) (r : Result ℕ Fault) (l : ℕ) → cond b (Err (fault refusal.Superframe 0)) r ≡ Ok l → r ≡ Ok l
+  opening_fits : (b : Bool) (r : Result ℕ Fault) (l : ℕ) → cond b (Err (fault refusal.Superframe 0)) r ≡ Ok l
+      → r ≡ Ok l
   opening_fits true r l e = absurd cc
   opening_fits false r l e = e
 
-  open_so : (buffer : List ℕ) (o : Result ℕ Fault) (r : Result Opened Fault) (memory : List ℕ) → coordinator.opening m.numbers k buffer ≡ o → r ≡ opened_as k.number o → memory ≡ left_by o (beacon_of m.numbers k) buffer → Steady m k ds → Steady m (cond (is_ok o) (begun k) k) (deed (opens buffer r memory) ∷ ds)
+  open_so : (buffer : List ℕ) (o : Result ℕ Fault) (r : Result Opened Fault) (memory : List ℕ)
+      → coordinator.opening m.numbers k buffer ≡ o → r ≡ opened_as k.number o
+      → memory ≡ left_by o (beacon_of m.numbers k) buffer → Steady m k ds
+      → Steady m (cond (is_ok o) (begun k) k) (deed (opens buffer r memory) ∷ ds)
   open_so buffer (Err f) (Err g) memory d e h s = idle_steady m k ds s
   open_so buffer (Err f) (Ok o) memory d e h s = absurd cc
   open_so buffer (Ok l) (Err f) memory d e h s = absurd cc
   open_so buffer (Ok l) (Ok o) memory d e h s =
       let same : o ≡ record { length = l; superframe = record { number = k.number } } = cc in
       let q : o.length ≡ l = ap (λ (x : Opened). x.length) same in
-      opened_so (take o.length memory) (ap (λ (x : ℕ). take x memory) q ∙ fitted (beacon_of m.numbers k) buffer memory l (opening_fits k.opened _ l d) h) s
+      opened_so (take o.length memory)
+      (ap (λ (x : ℕ). take x memory) q
+      ∙ fitted (beacon_of m.numbers k) buffer memory l (opening_fits k.opened _ l d) h) s
 
-  pub open_steady : (buffer : List ℕ) (r : Result Opened Fault) (memory : List ℕ) → r ≡ open_answer m.numbers k buffer → memory ≡ open_memory m.numbers k buffer → Steady m k ds → Steady m (open_state m.numbers k buffer) (deed (opens buffer r memory) ∷ ds)
+  pub open_steady : (buffer : List ℕ) (r : Result Opened Fault) (memory : List ℕ) → r ≡ open_answer m.numbers k buffer
+      → memory ≡ open_memory m.numbers k buffer → Steady m k ds
+      → Steady m (open_state m.numbers k buffer) (deed (opens buffer r memory) ∷ ds)
   open_steady buffer r memory e h s = open_so buffer (coordinator.opening m.numbers k buffer) r memory refl e h s
 
   closed_so : Steady m k ds → Steady m (ended k) (closing ∷ ds)
@@ -300,13 +354,15 @@ module _ {C : Type 0} (m : PlanMeaning) (k : Inner) (ds : List (Deed C)) where
     earlier = s.earlier;
   }
 
-  close_so : (j : ℕ) (b : Bool) (f : Fault × OpenSuperframe) (r : Result (Unit {0}) (Fault × OpenSuperframe)) → r ≡ cond b (Ok tt) (Err f) → Steady m k ds → Steady m (cond b (ended k) k) (deed (closes j r) ∷ ds)
+  close_so : (j : ℕ) (b : Bool) (f : Fault × OpenSuperframe) (r : Result (Unit {0}) (Fault × OpenSuperframe))
+      → r ≡ cond b (Ok tt) (Err f) → Steady m k ds → Steady m (cond b (ended k) k) (deed (closes j r) ∷ ds)
   close_so j true f (Ok u) e s = closed_so s
   close_so j true f (Err g) e s = absurd cc
   close_so j false f (Ok u) e s = absurd cc
   close_so j false f (Err g) e s = idle_steady m k ds s
 
-  pub close_steady : (j : ℕ) (r : Result (Unit {0}) (Fault × OpenSuperframe)) → r ≡ close_answer k j → Steady m k ds → Steady m (close_state k j) (deed (closes j r) ∷ ds)
+  pub close_steady : (j : ℕ) (r : Result (Unit {0}) (Fault × OpenSuperframe)) → r ≡ close_answer k j → Steady m k ds
+      → Steady m (close_state k j) (deed (closes j r) ∷ ds)
   close_steady j r e s = close_so j (is_open k j) (fault refusal.Superframe 0, record { number = j }) r e s
 
 -- Hearing a management frame.
@@ -324,14 +380,22 @@ module _ (m : PlanMeaning) (rules : Rules m) (k : Inner) (x : Managed) where
   discovered_as None e = absurd cc
   discovered_as (Some i) e = inr (inl (sym (ap replied e)))
 
-  handing_as : (a i : ℕ) (o : Option Grant) → grant_at m i ≡ o → number_with m a ≡ Some i → handing m k a i o ≡ Ok x → ReplyOf m x.reply
+  handing_as : (a i : ℕ) (o : Option Grant) → grant_at m i ≡ o → number_with m a ≡ Some i → handing m k a i o ≡ Ok x
+      → ReplyOf m x.reply
   handing_as a i None at named e = absurd cc
   handing_as a i (Some g) at named e =
       let w = (names_addressed m rules a i).0 named in
       let there : grant_at m i ≡ Some w.0 = w.1 in
       let same : w.0 ≡ g = cc in
       let address : g.address ≡ a = ap (λ (y : Grant). y.address) (sym same) ∙ w.2 in
-      inr (inr (i, g, at, sym (ap replied e) ∙ ap (λ (b : ℕ). octets_of (command_frame (commands.ConfigurationRequest b (configuration_for m.numbers g)))) (sym address)))
+      inr (inr (
+        i,
+        g,
+        at,
+        sym (ap replied e)
+            ∙ ap (λ (b : ℕ).
+            octets_of (command_frame (commands.ConfigurationRequest b (configuration_for m.numbers g)))) (sym address),
+      ))
 
   requested_as : (a : ℕ) (o : Option ℕ) → number_with m a ≡ o → requested m k a o ≡ Ok x → ReplyOf m x.reply
   requested_as a None named e = absurd cc
@@ -363,7 +427,9 @@ module _ (m : PlanMeaning) (rules : Rules m) (k : Inner) (x : Managed) where
   read_as (Ok t) e = message_as (is_configuring (state_of k.mode)) t.message e
   read_as (Err f) e = absurd cc
 
-  open_as : (a b : Bool) (t : Result Told Fault) → cond a (Err (fault refusal.Superframe 0)) (cond b (Err (fault refusal.Mode 0)) (managed_as m k t)) ≡ Ok x → ReplyOf m x.reply
+  open_as : (a b : Bool) (t : Result Told Fault)
+      → cond a (Err (fault refusal.Superframe 0)) (cond b (Err (fault refusal.Mode 0)) (managed_as m k t)) ≡ Ok x
+      → ReplyOf m x.reply
   open_as true b t e = absurd cc
   open_as false true t e = absurd cc
   open_as false false t e = read_as t e
@@ -387,7 +453,9 @@ module _ {C : Type 0} (m : PlanMeaning) (rules : Rules m) (k : Inner) (ds : List
     earlier = s.earlier;
   }
 
-  replying_so : (j : ℕ) (xs buffer : List ℕ) (x : Managed) (o r : Result ℕ Fault) (memory : List ℕ) → ReplyOf m x.reply → fitting x.reply buffer ≡ o → r ≡ o → memory ≡ left_by o x.reply buffer → Steady m k ds → Steady m (cond (is_ok o) (noted k x) k) (deed (hears_management j xs buffer r memory) ∷ ds)
+  replying_so : (j : ℕ) (xs buffer : List ℕ) (x : Managed) (o r : Result ℕ Fault) (memory : List ℕ)
+      → ReplyOf m x.reply → fitting x.reply buffer ≡ o → r ≡ o → memory ≡ left_by o x.reply buffer → Steady m k ds
+      → Steady m (cond (is_ok o) (noted k x) k) (deed (hears_management j xs buffer r memory) ∷ ds)
   replying_so j xs buffer x (Err f) (Err g) memory h d e q s = idle_steady m k ds s
   replying_so j xs buffer x (Err f) (Ok l) memory h d e q s = absurd cc
   replying_so j xs buffer x (Ok l) (Err f) memory h d e q s = absurd cc
@@ -396,12 +464,17 @@ module _ {C : Type 0} (m : PlanMeaning) (rules : Rules m) (k : Inner) (ds : List
       let whole : take n memory ≡ x.reply = ap (λ (y : ℕ). take y memory) same ∙ fitted x.reply buffer memory l d q in
       replied_so x (take n memory) (subst (λ (zs : List ℕ). ReplyOf m zs) (sym whole) h) s
 
-  manage_so : (j : ℕ) (xs buffer : List ℕ) (o : Result Managed Fault) (r : Result ℕ Fault) (memory : List ℕ) → managing m k j xs ≡ o → r ≡ replying o buffer → memory ≡ reply_memory o buffer → Steady m k ds → Steady m (reply_state k o buffer) (deed (hears_management j xs buffer r memory) ∷ ds)
+  manage_so : (j : ℕ) (xs buffer : List ℕ) (o : Result Managed Fault) (r : Result ℕ Fault) (memory : List ℕ)
+      → managing m k j xs ≡ o → r ≡ replying o buffer → memory ≡ reply_memory o buffer → Steady m k ds
+      → Steady m (reply_state k o buffer) (deed (hears_management j xs buffer r memory) ∷ ds)
   manage_so j xs buffer (Err f) (Err g) memory d e q s = idle_steady m k ds s
   manage_so j xs buffer (Err f) (Ok l) memory d e q s = absurd cc
-  manage_so j xs buffer (Ok x) r memory d e q s = replying_so j xs buffer x (fitting x.reply buffer) r memory (replies_as m rules k x j xs d) refl e q s
+  manage_so j xs buffer (Ok x) r memory d e q s =
+      replying_so j xs buffer x (fitting x.reply buffer) r memory (replies_as m rules k x j xs d) refl e q s
 
-  pub manage_steady : (j : ℕ) (xs buffer : List ℕ) (r : Result ℕ Fault) (memory : List ℕ) → r ≡ manage_answer m k j xs buffer → memory ≡ manage_memory m k j xs buffer → Steady m k ds → Steady m (manage_state m k j xs buffer) (deed (hears_management j xs buffer r memory) ∷ ds)
+  pub manage_steady : (j : ℕ) (xs buffer : List ℕ) (r : Result ℕ Fault) (memory : List ℕ)
+      → r ≡ manage_answer m k j xs buffer → memory ≡ manage_memory m k j xs buffer → Steady m k ds
+      → Steady m (manage_state m k j xs buffer) (deed (hears_management j xs buffer r memory) ∷ ds)
   manage_steady j xs buffer r memory e q s = manage_so j xs buffer (managing m k j xs) r memory refl e q s
 
 -- Hearing a data frame.
@@ -411,11 +484,14 @@ granted_at m None g e = absurd cc
 granted_at m (Some i) g e = (i, e)
 
 -- the grant of a sender is one of the plan
-pub sender_granted : (m : PlanMeaning) (k : Inner) (t : ℕ) (g : Grant) → sending m k t ≡ Some g → (i : ℕ) × (grant_at m i ≡ Some g)
+pub sender_granted : (m : PlanMeaning) (k : Inner) (t : ℕ) (g : Grant) → sending m k t ≡ Some g
+    → (i : ℕ) × (grant_at m i ≡ Some g)
 sender_granted m k t g e = granted_at m (sender_at m k.sent t) g e
 
 module _ {C : Type 0} (m : PlanMeaning) (rules : Rules m) (k : Inner) (ds : List (Deed C)) where
-  heard_so : (t : ℕ) (xs : List ℕ) (simple : ℕ) (c : C) (o : Option Grant) (g : Grant) → sending m k t ≡ o → o ≡ Some g → k.opened ≡ true → Steady m k ds → Steady m (coordinator.accepted m.numbers k t o) (hand_up t xs simple c ∷ ds)
+  heard_so : (t : ℕ) (xs : List ℕ) (simple : ℕ) (c : C) (o : Option Grant) (g : Grant) → sending m k t ≡ o
+      → o ≡ Some g → k.opened ≡ true → Steady m k ds
+      → Steady m (coordinator.accepted m.numbers k t o) (hand_up t xs simple c ∷ ds)
   heard_so t xs simple c None g d e opened s = absurd cc
   heard_so t xs simple c (Some h) g d e opened s =
       let w = sender_granted m k t h d in
@@ -431,7 +507,8 @@ module _ {C : Type 0} (m : PlanMeaning) (rules : Rules m) (k : Inner) (ds : List
       }
 
 module _ {C : Type 0} (image : C → List ℕ) (m : PlanMeaning) (rules : Rules m) (k : Inner) (ds : List (Deed C)) where
-  pub hear_steady : (j t : ℕ) (xs : List ℕ) (r : Result (Heard C) Fault) → Hears image m k j t xs r → Steady m k ds → Steady m (hear_state m k t r) (deed (hears j t xs r) ∷ ds)
+  pub hear_steady : (j t : ℕ) (xs : List ℕ) (r : Result (Heard C) Fault) → Hears image m k j t xs r → Steady m k ds
+      → Steady m (hear_state m k t r) (deed (hears j t xs r) ∷ ds)
   hear_steady j t xs (Err f) e s = idle_steady m k ds s
   hear_steady j t xs (Ok h) e s =
       let w = heard_tells image m k j t xs h e in

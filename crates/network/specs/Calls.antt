@@ -7,12 +7,16 @@ use Rattle.coordinator.specs.declared.state.Inner.{Inner}
 use Rattle.coordinator.specs.declared.state.Mode.{Mode}
 use Rattle.coordinator.specs.declared.state.Opened.{Opened}
 use Rattle.coordinator.specs.declared.state.OpenSuperframe.{OpenSuperframe}
-use Rattle.coordinator.specs.Steps.{mode_answer, mode_state, open_answer, open_memory, open_state, Hears, hear_state, manage_answer, manage_memory, manage_state, close_answer, close_state}
+use Rattle.coordinator.specs.Steps.{mode_answer, mode_state, open_answer, open_memory, open_state, Hears, hear_state}
+use Rattle.coordinator.specs.Steps.{manage_answer, manage_memory, manage_state, close_answer, close_state}
 use Rattle.device.specs.declared.device.Device.{Device}
 use Rattle.device.specs.declared.fate.Fate.{Fate}
-use Rattle.device.specs.Steps.{beacon_answer, beacon_state, missed_answer, missed_state, offer_answer, offer_state, send_answer, send_memory, send_state, write_answer, write_memory, write_state, take_answer, take_state}
+use Rattle.device.specs.Steps.{beacon_answer, beacon_state, missed_answer, missed_state, offer_answer, offer_state}
+use Rattle.device.specs.Steps.{send_answer, send_memory, send_state, write_answer, write_memory, write_state}
+use Rattle.device.specs.Steps.{take_answer, take_state}
 
--- one call with its answer: what was handed over, what was answered and, where a buffer was lent, what it held before and after.
+-- one call with its answer: what was handed over, what was answered and, where a buffer was lent, what it held before
+-- and after.
 -- Superframes go by their numbers, devices by their places.
 pub data Call (C : Type 0) : Type 0 where
   set_mode : Mode → Result (Unit {0}) Fault → Call C
@@ -53,18 +57,23 @@ module _ {C : Type 0} (image : C → List ℕ) (m : PlanMeaning) where
   device_after e v c = v
 
   abbrev pub after : Hall C → Call C → Hall C
-  after h c = record { coordinator = coordinator_after h.coordinator c; devices = λ e. device_after e (h.devices e) c }
+  after h c =
+      record { coordinator = coordinator_after h.coordinator c; devices = λ e. device_after e (h.devices e) c }
 
   -- answer and memory of a call are those that the ends give
   abbrev pub Answers : Hall C → Call C → Type 0
   Answers h (set_mode mode r) = r ≡ mode_answer h.coordinator
-  Answers h (opens buffer r memory) = (r ≡ open_answer m.numbers h.coordinator buffer) × (memory ≡ open_memory m.numbers h.coordinator buffer)
+  Answers h (opens buffer r memory) =
+      (r ≡ open_answer m.numbers h.coordinator buffer) × (memory ≡ open_memory m.numbers h.coordinator buffer)
   Answers h (hears k t xs r) = Hears image m h.coordinator k t xs r
-  Answers h (hears_management k xs buffer r memory) = (r ≡ manage_answer m h.coordinator k xs buffer) × (memory ≡ manage_memory m h.coordinator k xs buffer)
+  Answers h (hears_management k xs buffer r memory) =
+      (r ≡ manage_answer m h.coordinator k xs buffer) × (memory ≡ manage_memory m h.coordinator k xs buffer)
   Answers h (closes k r) = r ≡ close_answer h.coordinator k
   Answers h (takes_beacon d xs r) = r ≡ beacon_answer (h.devices d) xs
   Answers h (misses_beacon d r) = r ≡ missed_answer (h.devices d)
   Answers h (is_offered d x r) = r ≡ offer_answer image (h.devices d) x
-  Answers h (sends d t buffer r memory) = (r ≡ send_answer image (h.devices d) t buffer) × (memory ≡ send_memory image (h.devices d) t buffer)
-  Answers h (writes_management d buffer r memory) = (r ≡ write_answer (h.devices d) buffer) × (memory ≡ write_memory (h.devices d) buffer)
+  Answers h (sends d t buffer r memory) =
+      (r ≡ send_answer image (h.devices d) t buffer) × (memory ≡ send_memory image (h.devices d) t buffer)
+  Answers h (writes_management d buffer r memory) =
+      (r ≡ write_answer (h.devices d) buffer) × (memory ≡ write_memory (h.devices d) buffer)
   Answers h (takes_management d xs r) = r ≡ take_answer (h.devices d) xs

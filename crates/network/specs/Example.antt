@@ -1,5 +1,6 @@
 -- A run with two devices, in which every fate is told, one repeat arrives and one does not.
-use Rattle.std.specs.Prelude.{◌≡◌, ℕ, ◌+◌, ◌≤◌, true, false, List, [], ◌∷◌, ◌++◌, map, length, drop, replicate, pos, negsuc, Some, None, Ok, Err}
+use Rattle.std.specs.Prelude.{◌≡◌, ℕ, ◌+◌, ◌≤◌, true, false, List, [], ◌∷◌, ◌++◌, map, length, drop, replicate, pos}
+use Rattle.std.specs.Prelude.{negsuc, Some, None, Ok, Err}
 use Rattle.std.proofs.Common.{arith}
 use Rattle.frame.specs.declared.faults.Refusal.TheVariants as refusal
 use Rattle.frame.specs.declared.frames.Direction.TheVariants as directions
@@ -12,21 +13,41 @@ use Rattle.cargo.specs.Readings.{image_of}
 use Rattle.coordinator.specs.declared.state.Mode.TheVariants as mode
 use Rattle.device.specs.declared.fate.Fate.{Fate}
 use Rattle.device.specs.declared.fate.Fate.TheVariants as fate
-use Rattle.network.specs.Calls.{Call, set_mode, opens, hears, hears_management, closes, takes_beacon, misses_beacon, is_offered, sends, writes_management, takes_management}
+use Rattle.network.specs.Calls.{Call, set_mode, opens, hears, hears_management, closes, takes_beacon, misses_beacon}
+use Rattle.network.specs.Calls.{is_offered, sends, writes_management, takes_management}
 use Rattle.network.specs.History.{Telling, Arrival, accepted, told}
 use Rattle.network.specs.Runs.{Devices, Different, deeds, Run}
 use Rattle.network.specs.Guarantee.{arrivals_of_device}
 
 -- the plan: three base timeslots, the first of them for retransmission, and a grant of one timeslot for each device
 abbrev pub numbers : Numbers
-numbers = record { timeslots = 3; uplink = 3; retransmission = 1; size = 10; management = 1; coordinator = 1; channel = 11; sequence = 7 }
+numbers =
+    record {
+      timeslots = 3;
+      uplink = 3;
+      retransmission = 1;
+      size = 10;
+      management = 1;
+      coordinator = 1;
+      channel =
+          11;
+      sequence = 7;
+    }
 
 abbrev pub plan : PlanMeaning
-plan = plan_of numbers (record { address = 100; simple = 2; first = 2; width = 1 } ∷ record { address = 101; simple = 3; first = 3; width = 1 } ∷ [])
+plan = plan_of numbers
+    (record { address = 100; simple = 2; first = 2; width = 1 } ∷ record {
+      address = 101;
+      simple = 3;
+      first =
+          3;
+      width = 1;
+    } ∷ [])
 
 -- the devices 0 and 1 have the full addresses 100 and 101
 abbrev pub devices : Devices
-devices = record { count = 2; address = λ d. 100 + d; wish = λ d. record { width = 1; direction = directions.Uplink } }
+devices =
+    record { count = 2; address = λ d. 100 + d; wish = λ d. record { width = 1; direction = directions.Uplink } }
 
 -- the cargo: two readings, and the data frames that carry them
 abbrev pub warm : Reading
@@ -59,7 +80,8 @@ abbrev pub status : ℕ → List ℕ
 status address = 196 ∷ 14 ∷ address ∷ 0 ∷ 0 ∷ 0 ∷ 0 ∷ 0 ∷ 0 ∷ 0 ∷ 255 ∷ 1 ∷ 0 ∷ 0 ∷ 0 ∷ []
 
 abbrev pub request : ℕ → ℕ → List ℕ
-request address simple = 196 ∷ 15 ∷ address ∷ 0 ∷ 0 ∷ 0 ∷ 0 ∷ 0 ∷ 0 ∷ 0 ∷ simple ∷ 11 ∷ 0 ∷ 10 ∷ simple ∷ 1 ∷ 1 ∷ 3 ∷ 3 ∷ 1 ∷ []
+request address simple =
+    196 ∷ 15 ∷ address ∷ 0 ∷ 0 ∷ 0 ∷ 0 ∷ 0 ∷ 0 ∷ 0 ∷ simple ∷ 11 ∷ 0 ∷ 10 ∷ simple ∷ 1 ∷ 1 ∷ 3 ∷ 3 ∷ 1 ∷ []
 
 abbrev pub thanks : List ℕ
 thanks = 132 ∷ 15 ∷ []
@@ -122,7 +144,8 @@ calls_1 =
     ∷ set_mode mode.Online (Ok tt)
     ∷ calls_0
 
--- superframe 2: both learn that, and send again, device 0 an equal reading. One frame is lost, and the other one comes damaged.
+-- superframe 2: both learn that, and send again, device 0 an equal reading. One frame is lost, and the other one
+-- comes damaged.
 abbrev pub calls_2 : List (Call Reading)
 calls_2 =
     closing 2
@@ -136,7 +159,8 @@ calls_2 =
     ∷ opening 2 (online 3)
     ∷ calls_1
 
--- superframe 3: there is room for one repeat, that of device 0, which is heard; what it sends in its own timeslot is not
+-- superframe 3: there is room for one repeat, that of device 0, which is heard; what it sends in its own timeslot is
+-- not
 abbrev pub calls_3 : List (Call Reading)
 calls_3 =
     closing 3
@@ -149,7 +173,8 @@ calls_3 =
     ∷ opening 3 (online 0)
     ∷ calls_2
 
--- superframe 4: the repeat of that is not heard either, but what device 0 sends in its own timeslot is; device 1 has nothing to send
+-- superframe 4: the repeat of that is not heard either, but what device 0 sends in its own timeslot is; device 1 has
+-- nothing to send
 abbrev pub calls_4 : List (Call Reading)
 calls_4 =
     closing 4
@@ -163,7 +188,8 @@ calls_4 =
     ∷ opening 4 (online 0)
     ∷ calls_3
 
--- superframe 5: device 0 misses the beacon and so sends nothing; what it accepts keeps waiting, and no more is accepted
+-- superframe 5: device 0 misses the beacon and so sends nothing; what it accepts keeps waiting, and no more is
+-- accepted
 abbrev pub calls : List (Call Reading)
 calls =
     closing 5
@@ -185,13 +211,17 @@ arrived d = arrivals_of_device plan devices (deeds calls) d
 
 -- acceptance k arrived in superframe s, from the timeslot t of its device, or as a repeat from there
 abbrev pub own : ℕ → ℕ → ℕ → List ℕ → Reading → Arrival Reading
-own k s t xs x = record { cargo = x; frame = record { number = k; own = true; superframe = s; timeslot = t; octets = xs } }
+own k s t xs x =
+    record { cargo = x; frame = record { number = k; own = true; superframe = s; timeslot = t; octets = xs } }
 
 abbrev pub repeated : ℕ → ℕ → ℕ → List ℕ → Reading → Arrival Reading
-repeated k s t xs x = record { cargo = x; frame = record { number = k; own = false; superframe = s; timeslot = t; octets = xs } }
+repeated k s t xs x =
+    record { cargo = x; frame = record { number = k; own = false; superframe = s; timeslot = t; octets = xs } }
 
--- the premises of the guarantee: the plan is lawful, images are short and apart, full addresses differ, and the calls are a run.
--- In it every fate is told, of readings of which some are equal. Device 0 told Repeated of its acceptances 2 and 3: the first of them
+-- the premises of the guarantee: the plan is lawful, images are short and apart, full addresses differ, and the calls
+-- are a run.
+-- In it every fate is told, of readings of which some are equal. Device 0 told Repeated of its acceptances 2 and 3:
+-- the first of them
 -- arrived as a repeat, and the second never arrived.
 pub record Example : Type 0 where
   pub lawful : Rules plan

@@ -1,5 +1,6 @@
 -- What holds of every run of a network.
-use Rattle.std.specs.Prelude.{◌≡◌, ℕ, suc, ◌+◌, ◌<◌, ◌≤◌, Bool, true, false, cond, List, [], ◌∷◌, length, is_some, Some, Option, ◌≢◌}
+use Rattle.std.specs.Prelude.{◌≡◌, ℕ, suc, ◌+◌, ◌<◌, ◌≤◌, Bool, true, false, cond, List, [], ◌∷◌, length, is_some}
+use Rattle.std.specs.Prelude.{Some, Option, ◌≢◌}
 use Rattle.std.specs.Option.{option_map}
 use Rattle.frame.specs.Messages.{data_frame, octets_of}
 use Rattle.plan.specs.declared.grant.Grant.{Grant}
@@ -12,7 +13,9 @@ use Rattle.repeats.specs.BitAndRepeatTimeslots.{for_retransmission}
 use Rattle.coordinator.specs.Steps.{granted}
 use Rattle.network.specs.Calls.{Call}
 use Rattle.network.specs.Deeds.{Deed}
-use Rattle.network.specs.History.{numbered, Among, Sending, Telling, Arrival, Repetition, Frame, Learning, sendings, accepted, told, learnings, own_sendings, own_frames, repeats, arrivals, frames, senders, under_way, waits}
+use Rattle.network.specs.History.{numbered, Among, Sending, Telling, Arrival, Repetition, Frame, Learning, sendings}
+use Rattle.network.specs.History.{accepted, told, learnings, own_sendings, own_frames, repeats, arrivals, frames}
+use Rattle.network.specs.History.{senders, under_way, waits}
 use Rattle.network.specs.Runs.{Devices, Different, deeds, hall, Run}
 
 -- the grant of the device with a full address, if the plan has one
@@ -51,7 +54,8 @@ module _ {C : Type 0} (m : PlanMeaning) (devices : Devices) (ds : List (Deed C))
   -- cargo is handed up under simple addresses of devices of the network
   abbrev pub EverySenderIsADevice : Type 0
   EverySenderIsADevice =
-      (simple : ℕ) → Among simple (senders ds) → (d : ℕ) × (d < devices.count) × (simple_of m (devices.address d) ≡ Some simple)
+      (simple : ℕ) → Among simple (senders ds)
+      → (d : ℕ) × (d < devices.count) × (simple_of m (devices.address d) ≡ Some simple)
 
   -- whether timeslot t is one for retransmission
   abbrev pub again : ℕ → Bool
@@ -79,7 +83,8 @@ module _ {C : Type 0} (m : PlanMeaning) (devices : Devices) (ds : List (Deed C))
     abbrev pub ArrivalsComeInOrder : Type 0
     ArrivalsComeInOrder = Falling arrivals_of_device
 
-    -- each arrival was read out of a frame that this device sent, in that timeslot of that superframe, of the acceptance that arrived
+    -- each arrival was read out of a frame that this device sent, in that timeslot of that superframe, of the
+    -- acceptance that arrived
     abbrev pub EveryArrivalIsOfAFrameOfItsDevice : Type 0
     EveryArrivalIsOfAFrameOfItsDevice = (x : Arrival C) → Among x arrivals_of_device → Among x.frame frames_of_device
 
@@ -97,7 +102,8 @@ module _ {C : Type 0} (m : PlanMeaning) (devices : Devices) (ds : List (Deed C))
     abbrev pub RepeatsComeWithTheirFate : Type 0
     RepeatsComeWithTheirFate =
         (x : Frame) → Among x frames_of_device → x.own ≡ false
-        → (y : Telling) × (numbered (told d ds) x.number ≡ Some y) × (y.fate ≡ fate.Repeated) × (y.superframe ≡ x.superframe)
+        → (y : Telling) × (numbered (told d ds) x.number ≡ Some y) × (y.fate ≡ fate.Repeated)
+        × (y.superframe ≡ x.superframe)
 
     abbrev pub AcceptancesAreAccountedFor : Type 0
     AcceptancesAreAccountedFor =
@@ -119,21 +125,24 @@ module _ {C : Type 0} (m : PlanMeaning) (devices : Devices) (ds : List (Deed C))
     HandedUpFromItsOwnTimeslot k =
         (x : Arrival C) × Among x arrivals_of_device × (x.frame.number ≡ k) × (x.frame.own ≡ true)
 
-    -- with the news of the superframe after the one in which acceptance k was sent in its own timeslot, its fate is told
+    -- with the news of the superframe after the one in which acceptance k was sent in its own timeslot, its fate is
+    -- told
     abbrev pub TheNextNewsTellsTheFate : Type 0
     TheNextNewsTellsTheFate =
         (k sent : ℕ) (x : Learning) → numbered own_sendings_of_device k ≡ Some sent → Among x (learnings d ds)
         → x.superframe ≡ suc sent
         → (y : Telling) × (numbered (told d ds) k ≡ Some y) × (y.superframe ≡ x.superframe) × (y.online ≡ x.online)
 
-    -- of a fate that was told: it is Confirmed exactly when acceptance k was handed up from its own timeslot, and the news that told it was an Online beacon taken
+    -- of a fate that was told: it is Confirmed exactly when acceptance k was handed up from its own timeslot, and the
+    -- news that told it was an Online beacon taken
     abbrev pub ConfirmedGoesByTheNewsThatTellsIt : Type 0
     ConfirmedGoesByTheNewsThatTellsIt =
         (k : ℕ) (x : Telling) → numbered (told d ds) k ≡ Some x
         → (x.fate ≡ fate.Confirmed → HandedUpFromItsOwnTimeslot k × (x.online ≡ true))
         × (HandedUpFromItsOwnTimeslot k × (x.online ≡ true) → x.fate ≡ fate.Confirmed)
 
-    -- the device took the beacon of the superframe after the one in which acceptance k was sent in its own timeslot, an Online one
+    -- the device took the beacon of the superframe after the one in which acceptance k was sent in its own timeslot,
+    -- an Online one
     abbrev pub TookTheNextBeaconOnline : ℕ → Type 0
     TookTheNextBeaconOnline k =
         (sent : ℕ) × (x : Learning) × (numbered own_sendings_of_device k ≡ Some sent) × Among x (learnings d ds)
@@ -143,7 +152,8 @@ module _ {C : Type 0} (m : PlanMeaning) (devices : Devices) (ds : List (Deed C))
     abbrev pub ToldConfirmed : ℕ → Type 0
     ToldConfirmed k = (x : Telling) × (numbered (told d ds) k ≡ Some x) × (x.fate ≡ fate.Confirmed)
 
-    -- Confirmed is told of an acceptance exactly when it was handed up from its own timeslot and the next superframe's beacon, an Online one, was taken
+    -- Confirmed is told of an acceptance exactly when it was handed up from its own timeslot and the next
+    -- superframe's beacon, an Online one, was taken
     abbrev pub ConfirmedExactlyWhenHandedUp : Type 0
     ConfirmedExactlyWhenHandedUp =
         (k : ℕ) → (ToldConfirmed k → HandedUpFromItsOwnTimeslot k × TookTheNextBeaconOnline k)
@@ -161,12 +171,14 @@ module _ {C : Type 0} (m : PlanMeaning) (devices : Devices) (ds : List (Deed C))
           (k : ℕ) (xs : List ℕ) → numbered (own_frames d again ds) k ≡ Some xs
           → (x : C) × (numbered (accepted d ds) k ≡ Some x) × (xs ≡ octets_of (data_frame (image x)))
 
-      -- a repeat is the data frame of the acceptance whose fate was told last before it, and that fate is Repeated. It is also the one that
+      -- a repeat is the data frame of the acceptance whose fate was told last before it, and that fate is Repeated.
+      -- It is also the one that
       -- was sent in the own timeslot last, up to the superframe before.
       abbrev pub RepeatsCarryWhatWasToldRepeated : Type 0
       RepeatsCarryWhatWasToldRepeated =
           (y : Repetition) → Among y (repeats d again ds)
-          → (x : C) × (t : Telling) × (numbered (accepted d ds) y.number ≡ Some x) × (y.octets ≡ octets_of (data_frame (image x)))
+          → (x : C) × (t : Telling) × (numbered (accepted d ds) y.number ≡ Some x)
+          × (y.octets ≡ octets_of (data_frame (image x)))
           × (numbered (told d ds) y.number ≡ Some t) × (t.fate ≡ fate.Repeated) × (y.number ≡ y.told)
 
       -- what a device may count on, where cargo is carried by its image

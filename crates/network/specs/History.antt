@@ -1,5 +1,6 @@
 -- What a history of deeds tells. Histories have the newest deed first.
-use Rattle.std.specs.Prelude.{◌≡◌, ℕ, suc, Bool, true, false, cond, not, ◌&&◌, ◌⊎◌, List, [], ◌∷◌, map, filter, length, Some, None, Option, ◌==◌, nat_lt, unwrap_or}
+use Rattle.std.specs.Prelude.{◌≡◌, ℕ, suc, Bool, true, false, cond, not, ◌&&◌, ◌⊎◌, List, [], ◌∷◌, map, filter}
+use Rattle.std.specs.Prelude.{length, Some, None, Option, ◌==◌, nat_lt, unwrap_or}
 use Rattle.std.specs.List.{cons_option}
 use Rattle.std.specs.Option.{option_map}
 use Rattle.frame.specs.Octets.{bits, octet}
@@ -16,7 +17,8 @@ abbrev pub Among : {A : Type 0} → A → List A → Type 0
 Among x [] = ⊥
 Among x (y ∷ ys) = (x ≡ y) ⊎ Among x ys
 
--- a data frame that was sent: by which device, in which superframe of the run, counted from 1, at which timeslot, and its octets
+-- a data frame that was sent: by which device, in which superframe of the run, counted from 1, at which timeslot, and
+-- its octets
 pub record Sending : Type 0 where
   pub device : ℕ
   pub superframe : ℕ
@@ -34,7 +36,8 @@ pub record Learning : Type 0 where
   pub superframe : ℕ
   pub online : Bool
 
--- a data frame of a device: the number of the acceptance that it carries, whether it is of the device's own timeslot or else a repeat,
+-- a data frame of a device: the number of the acceptance that it carries, whether it is of the device's own timeslot
+-- or else a repeat,
 -- in which superframe of the run, at which timeslot, and its octets
 pub record Frame : Type 0 where
   pub number : ℕ
@@ -48,7 +51,8 @@ pub record Arrival (C : Type 0) : Type 0 where
   pub cargo : C
   pub frame : Frame
 
--- a frame that was sent as a repeat: the number of the acceptance that it repeats, how many fates the device had told, and its octets
+-- a frame that was sent as a repeat: the number of the acceptance that it repeats, how many fates the device had
+-- told, and its octets
 pub record Repetition : Type 0 where
   pub number : ℕ
   pub told : ℕ
@@ -115,7 +119,8 @@ module _ {C : Type 0} where
 
   -- the data frames that were sent
   abbrev pub sent_by : List (Deed C) → Deed C → Option Sending
-  sent_by past (transmission d t xs) = Some (record { device = d; superframe = superframes past; timeslot = t; octets = xs })
+  sent_by past (transmission d t xs) =
+      Some (record { device = d; superframe = superframes past; timeslot = t; octets = xs })
   sent_by past d = None
 
   abbrev pub sendings : List (Deed C) → List Sending
@@ -143,7 +148,8 @@ module _ {C : Type 0} where
 
     -- the news that it had
     abbrev pub learning_by : List (Deed C) → Deed C → Option Learning
-    learning_by past (news d b φ) = cond (d == e) (Some (record { superframe = superframes past; online = announces_online b })) None
+    learning_by past (news d b φ) =
+        cond (d == e) (Some (record { superframe = superframes past; online = announces_online b })) None
     learning_by past d = None
 
     abbrev pub learnings : List (Deed C) → List Learning
@@ -167,7 +173,8 @@ module _ {C : Type 0} where
 
     -- Of its frames: `again` says whether a timeslot is one for retransmission, and so not its own.
     module _ (again : ℕ → Bool) where
-      -- the superframes in which it sent in its own timeslot, and the octets of these frames. Acceptances are sent in their order, one
+      -- the superframes in which it sent in its own timeslot, and the octets of these frames. Acceptances are sent in
+      -- their order, one
       -- cargo waiting at a time, so the k-th of these frames is that of acceptance k.
       abbrev pub own_sendings : List (Deed C) → List ℕ
       own_sendings ds = map (λ (x : Sending). x.superframe) (filter (is_own e again) (sendings ds))
@@ -175,7 +182,8 @@ module _ {C : Type 0} where
       abbrev pub own_frames : List (Deed C) → List (List ℕ)
       own_frames ds = map (λ (x : Sending). x.octets) (filter (is_own e again) (sendings ds))
 
-      -- the number of the acceptance that is repeated now: how many frames it had sent in its own timeslot up to the superframe before
+      -- the number of the acceptance that is repeated now: how many frames it had sent in its own timeslot up to the
+      -- superframe before
       abbrev pub repeated : List (Deed C) → ℕ
       repeated ds = before (superframes ds) (own_sendings ds)
 
@@ -188,7 +196,8 @@ module _ {C : Type 0} where
 
       -- the data frames that it sent: in its own timeslot each is of the next acceptance
       abbrev pub frame_by : List (Deed C) → Deed C → Option Frame
-      frame_by past (transmission d t xs) = cond (d == e) (Some (frame_at past t (suc (length (own_sendings past))) xs)) None
+      frame_by past (transmission d t xs) =
+          cond (d == e) (Some (frame_at past t (suc (length (own_sendings past))) xs)) None
       frame_by past d = None
 
       abbrev pub frames : List (Deed C) → List Frame
@@ -197,17 +206,20 @@ module _ {C : Type 0} where
       -- those that it sent as repeats
       abbrev pub repeat_by : List (Deed C) → Deed C → Option Repetition
       repeat_by past (transmission d t xs) =
-          cond (d == e && again t) (Some (record { number = repeated past; told = length (told past); octets = xs })) None
+          cond (d == e && again t)
+          (Some (record { number = repeated past; told = length (told past); octets = xs })) None
       repeat_by past d = None
 
       abbrev pub repeats : List (Deed C) → List Repetition
       repeats ds = picked repeat_by ds
 
-      -- what was handed up of it, under its simple address, if it has one. What is heard in its own timeslot is the frame that it sent there
+      -- what was handed up of it, under its simple address, if it has one. What is heard in its own timeslot is the
+      -- frame that it sent there
       -- last.
       abbrev pub arrival_by : Option ℕ → List (Deed C) → Deed C → Option (Arrival C)
       arrival_by address past (hand_up t xs simple x) =
-          cond (is_under address simple) (Some (record { cargo = x; frame = frame_at past t (length (own_sendings past)) xs })) None
+          cond (is_under address simple)
+          (Some (record { cargo = x; frame = frame_at past t (length (own_sendings past)) xs })) None
       arrival_by address past d = None
 
       abbrev pub arrivals : Option ℕ → List (Deed C) → List (Arrival C)

@@ -4,8 +4,10 @@ use Rattle.frame.specs.declared.frames.Wish.{Wish}
 use Rattle.plan.specs.Rules.{PlanMeaning}
 use Rattle.coordinator.specs.Steps as coordinator
 use Rattle.device.specs.Steps as device
-use Rattle.network.specs.Calls.{Call, set_mode, opens, hears, hears_management, closes, takes_beacon, misses_beacon, is_offered, sends, writes_management, takes_management, Hall, after, Answers}
-use Rattle.network.specs.Deeds.{Deed, opening, closing, hand_up, reply, news, acceptance, transmission, taking, nothing, deed}
+use Rattle.network.specs.Calls.{Call, set_mode, opens, hears, hears_management, closes, takes_beacon, misses_beacon}
+use Rattle.network.specs.Calls.{is_offered, sends, writes_management, takes_management, Hall, after, Answers}
+use Rattle.network.specs.Deeds.{Deed, opening, closing, hand_up, reply, news, acceptance, transmission, taking}
+use Rattle.network.specs.Deeds.{nothing, deed}
 use Rattle.network.specs.History.{Among, Sending, superframes, announced, learned, replies, sendings}
 
 -- how many devices there are, and with which full addresses and wishes
@@ -31,7 +33,8 @@ Present count c = Unit {0}
 module _ {C : Type 0} where
   -- octets were sent in a timeslot of the superframe that was opened last
   abbrev pub OnAir : List (Deed C) → ℕ → List ℕ → Type 0
-  OnAir ds t xs = (x : Sending) × Among x (sendings ds) × (x.superframe ≡ superframes ds) × (x.timeslot ≡ t) × (x.octets ≡ xs)
+  OnAir ds t xs = (x : Sending) × Among x (sendings ds) × (x.superframe ≡ superframes ds) × (x.timeslot ≡ t)
+      × (x.octets ≡ xs)
 
   -- a superframe is open, of whose beacon device d had no news yet
   abbrev pub Unaware : List (Deed C) → ℕ → Type 0
@@ -57,7 +60,8 @@ module _ {C : Type 0} where
   module _ (image : C → List ℕ) (m : PlanMeaning) (devices : Devices) where
     -- the network before the first call
     abbrev pub beginning : Hall C
-    beginning = record { coordinator = coordinator.made; devices = λ d. device.made (devices.address d) (devices.wish d) }
+    beginning =
+        record { coordinator = coordinator.made; devices = λ d. device.made (devices.address d) (devices.wish d) }
 
     -- the network after calls, the newest first
     abbrev pub hall : List (Call C) → Hall C
@@ -67,4 +71,5 @@ module _ {C : Type 0} where
     -- each call gave the answer that the ends give, at a device that there is, and kept the rules of the network
     abbrev pub Run : List (Call C) → Type 0
     Run [] = Unit {0}
-    Run (c ∷ cs) = Run cs × Answers image m (hall cs) c × Present devices.count c × KeepsRules devices.count (deeds cs) (deed c)
+    Run (c ∷ cs) = Run cs × Answers image m (hall cs) c × Present devices.count c
+        × KeepsRules devices.count (deeds cs) (deed c)
