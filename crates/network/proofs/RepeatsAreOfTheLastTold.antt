@@ -5,8 +5,8 @@ use Rattle.std.proofs.Common.{refl, ap, ◌∙◌, arith}
 use Rattle.std.proofs.lemmas.Bool.{lt-ltb, le-ltb}
 use Rattle.network.specs.Deeds.{Deed}
 use Rattle.network.specs.History.{before, superframes, learned, repeated}
-use Rattle.network.proofs.Books.{Line, AllBefore, since, Agrees}
-use Rattle.network.proofs.Sound.{flown}
+use Rattle.network.proofs.DeviceBook.{Line, AllBefore, since, Agrees}
+use Rattle.network.proofs.StateAgreesWithHistory.{flown}
 
 module _ {C : Type 0} where
   -- all lines of a book were sent before

@@ -1,6 +1,6 @@
 use Rattle.network.proofs.making.coordinator_for.Goals as goal
-use Rattle.network.proofs.Example.{example}
-use Rattle.network.proofs.Holds.{guarantee}
+use Rattle.network.proofs.TheExampleIsARun.{example}
+use Rattle.network.proofs.EveryRunIsGuaranteed.{guarantee}
 
 pub returns-clause-guarantee : goal.returns-clause-guarantee
 returns-clause-guarantee g c = guarantee g.C.Cargo.image g.met.C.Cargo.short g.met.C.Cargo.apart

@@ -24,11 +24,13 @@ use Rattle.network.specs.Deeds.{Deed, hand_up}
 use Rattle.network.specs.History as history
 use Rattle.network.specs.History.{Among, Sending, superframes, learned, sendings}
 use Rattle.network.specs.Guarantee.{grant_of}
-use Rattle.network.proofs.Books.{Line, Just, AllJust, AllBefore, Landing, landing_of, telling_of, arrivals_of, listed}
-use Rattle.network.proofs.Books.{since, in_flight, Agrees}
+use Rattle.network.proofs.DeviceBook.{Line, Just, AllJust, AllBefore, Landing, landing_of, telling_of, arrivals_of}
+use Rattle.network.proofs.DeviceBook.{listed}
+use Rattle.network.proofs.DeviceBook.{since, in_flight, Agrees}
 use Rattle.network.proofs.FramesAreOwnOrRepeats.{own_is_no_repeat, repeats_are_for_retransmission}
 use Rattle.network.proofs.RepeatsAreOfTheLastTold.{last_told}
-use Rattle.network.proofs.Sound.{frame_with, current, flown, OwnFrame, ToRepeat, AgainFrame, Sound, Steady}
+use Rattle.network.proofs.StateAgreesWithHistory.{frame_with, current, flown, OwnFrame, ToRepeat, AgainFrame, Sound}
+use Rattle.network.proofs.StateAgreesWithHistory.{Steady}
 
 -- no arrival is in flight where the bit is zero
 no_flight : {C : Type 0} (b : Bool) (n : ℕ) (o : Option C) → b ≡ false → in_flight b n o ≡ []
@@ -126,8 +128,8 @@ module _ {C : Type 0} (image : C → List ℕ) (m : PlanMeaning) (rules : Rules 
             late = λ _ _ _. omega arith;
             quiet = λ none. absurd cc;
             due = s.due;
-            frames = λ o y among device superframe. let f =
-                s.frames o y among device superframe in (f.0, ⊎_elim (λ a. inl a) (λ b. inr (still b)) f.1);
+            frames = λ o y among device superframe.
+                let f = s.frames o y among device superframe in (f.0, ⊎_elim (λ a. inl a) (λ b. inr (still b)) f.1);
           })
         where
           still : {y : Sending} → AgainFrame image m.numbers g sent last v s.book y
@@ -246,8 +248,8 @@ module _ {C : Type 0} (image : C → List ℕ) (m : PlanMeaning) (rules : Rules 
             late = λ o a b. let l = s.late o a b in omega arith;
             quiet = s.quiet;
             due = λ r some _ _. absurd cc;
-            frames = λ o y among device superframe. let f =
-                s.frames o y among device superframe in (f.0, ⊎_elim (λ a. inl a) (λ b. inr (still b)) f.1);
+            frames = λ o y among device superframe.
+                let f = s.frames o y among device superframe in (f.0, ⊎_elim (λ a. inl a) (λ b. inr (still b)) f.1);
           })
         where
           still : {y : Sending} → AgainFrame image m.numbers g sent last v s.book y
@@ -363,8 +365,8 @@ module _ {C : Type 0} (image : C → List ℕ) (m : PlanMeaning) (rules : Rules 
       late = λ o u b. let l = s.late o u (sym same_bit ∙ b) in omega arith;
       quiet = λ none. same_current ∙ s.quiet none;
       due = s.due;
-      frames = λ o y among device superframe. let f =
-          s.frames o y among device superframe in (f.0, ⊎_elim (λ b. inl b) (λ b. inr (still b)) f.1);
+      frames = λ o y among device superframe.
+          let f = s.frames o y among device superframe in (f.0, ⊎_elim (λ b. inl b) (λ b. inr (still b)) f.1);
     }
       where
         other : g.simple ≡ h.simple → ⊥
@@ -400,6 +402,6 @@ module _ {C : Type 0} (image : C → List ℕ) (m : PlanMeaning) (rules : Rules 
               to_repeat = b.to_repeat;
               octets = b.octets;
               spent = b.spent;
-              once = λ q. let l =
-                  b.once q in omega arith;
+              once = λ q.
+                  let l = b.once q in omega arith;
             }

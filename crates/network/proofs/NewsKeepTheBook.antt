@@ -39,10 +39,10 @@ use Rattle.network.specs.Calls.{misses_beacon, takes_beacon}
 use Rattle.network.specs.Deeds.{Deed, news, deed}
 use Rattle.network.specs.History.{Among, Sending, Telling, superframes, announced, learned, sendings}
 use Rattle.network.specs.History.{announces_online}
-use Rattle.network.proofs.Books.{Line, Just, listed, in_flight, telling_of, arrivals_of, count}
+use Rattle.network.proofs.DeviceBook.{Line, Just, listed, in_flight, telling_of, arrivals_of, count}
 use Rattle.network.specs.Runs.{KeepsRules}
-use Rattle.network.proofs.Sound.{Sound, Outside, Steady}
-use Rattle.network.proofs.Devices.{idle, open_now, outside_idle}
+use Rattle.network.proofs.StateAgreesWithHistory.{Sound, Outside, Steady}
+use Rattle.network.proofs.OwnCallsKeepTheBook.{idle, open_now, outside_idle}
 
 -- a device after news, with nothing sent since
 abbrev informed_as : {C : Type 0} → Device C → Phase → Option Configuration → News → Option (Repeat C) → Device C

@@ -18,8 +18,8 @@ use Rattle.network.specs.History.{Among, Sending, superframes, sendings}
 use Rattle.network.specs.Guarantee.{grant_of, simple_of, Takes, EveryFrameTakesItsTimeslot}
 use Rattle.network.specs.Guarantee.{NoTwoDevicesShareATimeslot, EverySenderIsADevice}
 use Rattle.network.specs.Runs.{Devices, Different}
-use Rattle.network.proofs.Sound.{OwnFrame, AgainFrame, Standing}
-use Rattle.network.proofs.Hearing.{grant_found}
+use Rattle.network.proofs.StateAgreesWithHistory.{OwnFrame, AgainFrame, Standing}
+use Rattle.network.proofs.HearingKeepsTheBook.{grant_found}
 
 -- a frame starts where its sender's grant begins, or where the grant's repeat starts
 abbrev pub Starts : Numbers → List ℕ → Grant → ℕ → Type 0

@@ -50,7 +50,7 @@ use Rattle.network.specs.Calls.{is_offered, sends, writes_management, takes_mana
 use Rattle.network.specs.Deeds.{Deed, opening, closing, hand_up, reply, news, acceptance, transmission, taking}
 use Rattle.network.specs.Deeds.{nothing, sent_deed, deed}
 use Rattle.network.specs.History.{Sending, superframes, announced, replies, sendings}
-use Rattle.network.proofs.Sound.{Steady, ReplyOf}
+use Rattle.network.proofs.StateAgreesWithHistory.{Steady, ReplyOf}
 
 -- Marking.
 
@@ -394,7 +394,8 @@ module _ (m : PlanMeaning) (rules : Rules m) (k : Inner) (x : Managed) where
         at,
         sym (ap replied e)
             ∙ ap (λ (b : ℕ).
-            octets_of (command_frame (commands.ConfigurationRequest b (configuration_for m.numbers g)))) (sym address),
+            octets_of (command_frame (commands.ConfigurationRequest b (configuration_for m.numbers g))))
+            (sym address),
       ))
 
   requested_as : (a : ℕ) (o : Option ℕ) → number_with m a ≡ o → requested m k a o ≡ Ok x → ReplyOf m x.reply

@@ -26,20 +26,20 @@ use Rattle.network.specs.History.{Among, Sending, superframes, announced, sendin
 use Rattle.network.specs.Guarantee.{grant_of, simple_of, DeviceTellsWhatItHolds, Guaranteed, DeviceGuaranteed}
 use Rattle.network.specs.Guarantee.{Guarantee}
 use Rattle.network.specs.Runs.{Devices, Different, Present, OnAir, KeepsRules, deeds, hall, Run}
-use Rattle.network.proofs.Accounts.{Carried, from_book, from_outside}
-use Rattle.network.proofs.Addresses.{address_of}
-use Rattle.network.proofs.Books.{count}
-use Rattle.network.proofs.Carrying.{Carries, begun_carries, next_carries}
-use Rattle.network.proofs.Crediting.{Credits, Grounds, begun_credits, next_credits}
-use Rattle.network.proofs.Devices as DevicesKeep
-use Rattle.network.proofs.Devices.{open_now}
-use Rattle.network.proofs.Hearing.{grant_found, heard_of, heard_elsewhere}
-use Rattle.network.proofs.Learning.{Learns, begun_learns, next_learns, no_later}
-use Rattle.network.proofs.News as NewsKeep
-use Rattle.network.proofs.Others as others
-use Rattle.network.proofs.Placing.{Facts, placed, hand_up_facts, transmission_facts}
-use Rattle.network.proofs.Sound.{Steady, Standing}
-use Rattle.network.proofs.Steadily as steadily
+use Rattle.network.proofs.TheBookGivesTheGuarantee.{Carried, from_book, from_outside}
+use Rattle.network.proofs.DevicesKeepTheirAddress.{address_of}
+use Rattle.network.proofs.DeviceBook.{count}
+use Rattle.network.proofs.FramesCarryTheirAcceptance.{Carries, begun_carries, next_carries}
+use Rattle.network.proofs.ArrivalsAreOfFrames.{Credits, Grounds, begun_credits, next_credits}
+use Rattle.network.proofs.OwnCallsKeepTheBook as DevicesKeep
+use Rattle.network.proofs.OwnCallsKeepTheBook.{open_now}
+use Rattle.network.proofs.HearingKeepsTheBook.{grant_found, heard_of, heard_elsewhere}
+use Rattle.network.proofs.NewsComeOnceASuperframe.{Learns, begun_learns, next_learns, no_later}
+use Rattle.network.proofs.NewsKeepTheBook as NewsKeep
+use Rattle.network.proofs.OtherCallsKeepTheBook as others
+use Rattle.network.proofs.FramesShareNoTimeslot.{Facts, placed, hand_up_facts, transmission_facts}
+use Rattle.network.proofs.StateAgreesWithHistory.{Steady, Standing}
+use Rattle.network.proofs.CallsKeepTheCoordinatorSteady as steadily
 
 -- deeds that are neither frames nor hand-ups leave what holds of these
 same_facts : {C : Type 0} (m : PlanMeaning) (devices : Devices) (ds es : List (Deed C)) → sendings es ≡ sendings ds

@@ -24,8 +24,8 @@ use Rattle.network.specs.Calls.{sends, writes_management, takes_management}
 use Rattle.network.specs.Deeds.{Deed, opening, closing, reply, news, acceptance, transmission, taking, nothing, deed}
 use Rattle.network.specs.History.{Among, Sending, superframes, learned, sendings, accepted, told, own_sendings}
 use Rattle.network.specs.History.{arrivals, under_way, waits}
-use Rattle.network.proofs.Books.{Line, AllBefore, landing_of, Agrees}
-use Rattle.network.proofs.Sound.{Sound, Outside, Steady, Standing}
+use Rattle.network.proofs.DeviceBook.{Line, AllBefore, landing_of, Agrees}
+use Rattle.network.proofs.StateAgreesWithHistory.{Sound, Outside, Steady, Standing}
 
 -- two histories tell the same of the device at place e
 abbrev pub Same : {C : Type 0} → ℕ → List (Deed C) → List (Deed C) → Type 0

@@ -19,10 +19,11 @@ use Rattle.network.specs.Guarantee.{TookTheNextBeaconOnline, ToldConfirmed, Conf
 use Rattle.network.specs.Guarantee.{OwnFramesStartWithTheGrant, OwnFramesCarryTheirAcceptances}
 use Rattle.network.specs.Guarantee.{RepeatsCarryWhatWasToldRepeated, EveryArrivalIsOfAFrameOfItsDevice}
 use Rattle.network.specs.Guarantee.{OneOwnFrameAndOneRepeatASuperframe, RepeatsComeWithTheirFate, DeviceGuaranteed}
-use Rattle.network.proofs.Books.{Line, Just, AllJust, Landing, landing_of, telling_of, arrivals_of, listed, since}
-use Rattle.network.proofs.Books.{in_flight, count, Agrees}
-use Rattle.network.proofs.Learning.{Learns, learning_of}
-use Rattle.network.proofs.Sound.{Outside}
+use Rattle.network.proofs.DeviceBook.{Line, Just, AllJust, Landing, landing_of, telling_of, arrivals_of, listed}
+use Rattle.network.proofs.DeviceBook.{since}
+use Rattle.network.proofs.DeviceBook.{in_flight, count, Agrees}
+use Rattle.network.proofs.NewsComeOnceASuperframe.{Learns, learning_of}
+use Rattle.network.proofs.StateAgreesWithHistory.{Outside}
 
 -- entries by their numbers
 module _ {A : Type 0} where

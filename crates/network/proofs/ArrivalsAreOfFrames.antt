@@ -18,14 +18,14 @@ use Rattle.network.specs.Guarantee.{grant_of, simple_of, EveryArrivalIsOfAFrameO
 use Rattle.network.specs.Guarantee.{OwnFramesStartWithTheGrant, OneOwnFrameAndOneRepeatASuperframe}
 use Rattle.network.specs.Guarantee.{RepeatsComeWithTheirFate}
 use Rattle.network.specs.Runs.{Devices, KeepsRules}
-use Rattle.network.proofs.Accounts.{numbered_map}
-use Rattle.network.proofs.Books.{telling_of}
-use Rattle.network.proofs.Carrying.{numbered_kept, topped}
-use Rattle.network.proofs.Devices.{Sends}
+use Rattle.network.proofs.TheBookGivesTheGuarantee.{numbered_map}
+use Rattle.network.proofs.DeviceBook.{telling_of}
+use Rattle.network.proofs.FramesCarryTheirAcceptance.{numbered_kept, topped}
+use Rattle.network.proofs.OwnCallsKeepTheBook.{Sends}
 use Rattle.network.proofs.FramesAreOwnOrRepeats.{own_is_no_repeat, repeats_are_for_retransmission}
 use Rattle.network.proofs.RepeatsAreOfTheLastTold.{last_told}
-use Rattle.network.proofs.Hearing.{grant_found}
-use Rattle.network.proofs.Sound.{Sound, OwnFrame, AgainFrame, Standing}
+use Rattle.network.proofs.HearingKeepsTheBook.{grant_found}
+use Rattle.network.proofs.StateAgreesWithHistory.{Sound, OwnFrame, AgainFrame, Standing}
 
 module _ {C : Type 0} (image : C → List ℕ) (m : PlanMeaning) (devices : Devices) (e : ℕ) where
   abbrev r : ℕ → Bool
@@ -103,8 +103,8 @@ module _ {C : Type 0} (image : C → List ℕ) (m : PlanMeaning) (devices : Devi
         of_its_frame = c.of_its_frame;
         own_first = c.own_first;
         single = c.single;
-        timely = λ x among repeat. let w =
-            c.timely x among repeat in (w.0, numbered_kept _ (told e ds) x.number w.0 w.1, w.2, w.3);
+        timely = λ x among repeat.
+            let w = c.timely x among repeat in (w.0, numbered_kept _ (told e ds) x.number w.0 w.1, w.2, w.3);
       }
       | inr differ ↦
           (let q = ne_eqb d e differ in

@@ -38,9 +38,9 @@ use Rattle.network.specs.Calls.{is_offered, writes_management, takes_management}
 use Rattle.network.specs.Deeds.{Deed, acceptance, transmission, taking, nothing, sent_deed, deed}
 use Rattle.network.specs.History.{Among, Sending, superframes, learned, announced, replies, sendings, accepted}
 use Rattle.network.specs.Runs.{KeepsRules}
-use Rattle.network.proofs.Books.{Line, listed}
-use Rattle.network.proofs.Others.{unmoved, sound_still}
-use Rattle.network.proofs.Sound.{Sound, frame_with, OwnFrame, AgainFrame, Outside, ReplyOf, Steady}
+use Rattle.network.proofs.DeviceBook.{Line, listed}
+use Rattle.network.proofs.OtherCallsKeepTheBook.{unmoved, sound_still}
+use Rattle.network.proofs.StateAgreesWithHistory.{Sound, frame_with, OwnFrame, AgainFrame, Outside, ReplyOf, Steady}
 
 -- a device as before but for its wish, phase, configuration and news
 abbrev refit : {C : Type 0} → Device C → Wish → Phase → Option Configuration → News → Device C
@@ -94,8 +94,8 @@ module _ {C : Type 0} (image : C → List ℕ) (n : Numbers) (e : ℕ) (g : Gran
       late = s.late;
       quiet = s.quiet;
       due = s.due;
-      frames = λ o x among d k. let f =
-          s.frames o x among d k in (f.0, frames_as v (refit v wish phase c brought) s.book x refl refl f.1);
+      frames = λ o x among d k.
+          let f = s.frames o x among d k in (f.0, frames_as v (refit v wish phase c brought) s.book x refl refl f.1);
     }
 
     refitted_taking : (xs : List ℕ) → Kept v ds → Kept (refit v wish phase c brought) (taking e xs ∷ ds)
@@ -150,8 +150,8 @@ module _ {C : Type 0} (image : C → List ℕ) (n : Numbers) (e : ℕ) (g : Gran
         late = s.late;
         quiet = s.quiet;
         due = s.due;
-        frames = λ o y among d k. let f =
-            s.frames o y among d k in (f.0, frames_as v (holding v x) s.book y refl refl f.1);
+        frames = λ o y among d k.
+            let f = s.frames o y among d k in (f.0, frames_as v (holding v x) s.book y refl refl f.1);
       }
 
   offer_keeps : (v : Device C) (ds : List (Deed C)) (x : C) (r : Result (Unit {0}) Fault) → r ≡ offer_answer image v x
@@ -302,7 +302,14 @@ module _ {C : Type 0} (image : C → List ℕ) (n : Numbers) (e : ℕ) (g : Gran
         | inr f ↦ (
           aware,
           inr
-              (record { cargo = f.cargo; to_repeat = f.to_repeat; octets = f.octets; spent = f.spent; once = f.once }),
+              (record {
+                cargo = f.cargo;
+                to_repeat = f.to_repeat;
+                octets = f.octets;
+                spent = f.spent;
+                once =
+                    f.once;
+              }),
         )
       ]
 

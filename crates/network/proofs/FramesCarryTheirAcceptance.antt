@@ -17,12 +17,13 @@ use Rattle.network.specs.History.{numbered, Sending, Telling, Repetition, superf
 use Rattle.network.specs.History.{accepted, told, is_own, own_sendings, own_frames, repeated}
 use Rattle.network.specs.Guarantee.{grant_of, OwnFramesCarryTheirAcceptances, RepeatsCarryWhatWasToldRepeated}
 use Rattle.network.specs.Runs.{Devices, KeepsRules}
-use Rattle.network.proofs.Accounts.{numbered_top, numbered_cases, numbered_more, numbered_append, numbered_map}
-use Rattle.network.proofs.Books.{Line, telling_of, listed, since}
+use Rattle.network.proofs.TheBookGivesTheGuarantee.{numbered_top, numbered_cases, numbered_more, numbered_append}
+use Rattle.network.proofs.TheBookGivesTheGuarantee.{numbered_map}
+use Rattle.network.proofs.DeviceBook.{Line, telling_of, listed, since}
 use Rattle.network.proofs.FramesAreOwnOrRepeats.{own_is_no_repeat, repeats_are_for_retransmission}
-use Rattle.network.proofs.Hearing.{grant_found}
+use Rattle.network.proofs.HearingKeepsTheBook.{grant_found}
 use Rattle.network.proofs.RepeatsAreOfTheLastTold.{last_told}
-use Rattle.network.proofs.Sound.{Sound, OwnFrame, AgainFrame, Standing, frame_with}
+use Rattle.network.proofs.StateAgreesWithHistory.{Sound, OwnFrame, AgainFrame, Standing, frame_with}
 
 -- entries keep their numbers where another may be put in front
 pub numbered_kept : {A : Type 0} (o : Option A) (xs : List A) (k : ℕ) (z : A) → numbered xs k ≡ Some z

@@ -22,7 +22,7 @@ use Rattle.device.specs.declared.repeat.Repeat.{Repeat}
 use Rattle.network.specs.Deeds.{Deed}
 use Rattle.network.specs.History.{Among, Sending, superframes, announced, learned, replies, sendings, accepted, told}
 use Rattle.network.specs.History.{under_way, waits}
-use Rattle.network.proofs.Books.{Line, Agrees}
+use Rattle.network.proofs.DeviceBook.{Line, Agrees}
 
 -- the bitmap that has the bit of cargo that was sent and has no fate yet: the gathered one once the device has had
 -- its news of the open

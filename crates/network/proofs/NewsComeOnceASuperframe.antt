@@ -8,7 +8,7 @@ use Rattle.network.specs.Deeds.{Deed, opening, news}
 use Rattle.network.specs.History.{Among, Telling, Learning, telling, announces_online, superframes, learned, told}
 use Rattle.network.specs.History.{learnings}
 use Rattle.network.specs.Runs.{KeepsRules}
-use Rattle.network.proofs.Sound.{flown}
+use Rattle.network.proofs.StateAgreesWithHistory.{flown}
 
 -- the news with which a fate is told
 abbrev pub learning_of : Telling → Learning
