@@ -2,8 +2,8 @@ use Rattle.std.proofs.Common.{◌≡◌, ℕ, suc, ◌+◌, ◌-◌, ◌≤◌, 
 use Rattle.plan.specs.declared.grant.Grant.{Grant}
 use Rattle.plan.specs.declared.grant.Numbers.{Numbers}
 use Rattle.repeats.specs.Bitmaps.{with_timeslot, with_timeslots, marked_with, Marks}
-use Rattle.repeats.proofs.Alike.{always_alike, stays_alike}
-use Rattle.repeats.proofs.Marking.{length-with_timeslots, marks}
+use Rattle.repeats.proofs.EachGrantsBitsAreAlike.{always_alike, stays_alike}
+use Rattle.repeats.proofs.MarkingSetsTheGrantsBits.{length-with_timeslots, marks}
 use Rattle.repeats.proofs.bitmap.marked.Goals as goal
 
 -- one more timeslot is marked

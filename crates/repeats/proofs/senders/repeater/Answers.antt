@@ -6,8 +6,10 @@ use Rattle.plan.specs.Answers.{first_grant}
 use Rattle.plan.proofs.Listing.{first_by_find}
 use Rattle.repeats.specs.Laws.{NamesRepeater}
 use Rattle.repeats.specs.Starts.{repeat_start, starts_at, repeater_at}
-use Rattle.repeats.proofs.Serving.{within, in_order, apart, names_repeater}
-use Rattle.repeats.proofs.starts.repeater.Goals as goal
+use Rattle.repeats.proofs.AnswersNameTheSender.{names_repeater}
+use Rattle.repeats.proofs.RepeatsAreApartAndInOrder.{in_order, apart}
+use Rattle.repeats.proofs.RepeatsAreForRetransmission.{repeat_is_for_retransmission}
+use Rattle.repeats.proofs.senders.repeater.Goals as goal
 
 pub returns : goal.returns
 unfolding repeater_at
@@ -23,6 +25,6 @@ returns g c =
       answer = e;
       names = λ alike. subst (NamesRepeater m xs t) (sym e) (names_repeater m xs lawful alike t);
       apart = apart m xs lawful;
-      within = within m xs;
+      within = λ t i x at. repeat_is_for_retransmission m.numbers xs x t;
       order = in_order m xs lawful;
     }

@@ -5,8 +5,8 @@ use Rattle.plan.specs.Rules.{PlanMeaning, Rules}
 use Rattle.repeats.specs.BitAndRepeatTimeslots.{for_retransmission}
 use Rattle.repeats.specs.Laws.{BitsAlike, NamesSender}
 use Rattle.repeats.specs.Starts.{repeater_at, beginner_at, sender_at}
-use Rattle.repeats.proofs.Serving.{names_sender}
-use Rattle.repeats.proofs.starts.sender.Goals as goal
+use Rattle.repeats.proofs.AnswersNameTheSender.{names_sender}
+use Rattle.repeats.proofs.senders.sender.Goals as goal
 
 named : (m : PlanMeaning) (xs : List ℕ) (t : ℕ) (r : Option ℕ) → Rules m → r ≡ sender_at m xs t → BitsAlike m xs → NamesSender m xs t r
 named m xs t r rules e alike = subst (NamesSender m xs t) (sym e) (names_sender m xs rules alike t)

@@ -9,9 +9,9 @@ use Rattle.plan.specs.declared.grant.Numbers.{Numbers}
 use Rattle.plan.specs.Rules.{bitmap_octets}
 use Rattle.repeats.specs.BitAndRepeatTimeslots.{bit_count}
 use Rattle.repeats.specs.Bitmaps.{bit, Fits}
-use Rattle.repeats.proofs.Marking.{bit_past}
-use Rattle.repeats.proofs.Ranges.{each_passes, all_pass}
-use Rattle.repeats.proofs.bitmap.GroupAcknowledgment.fits.Goals as goal
+use Rattle.repeats.proofs.MarkingSetsTheGrantsBits.{bit_past}
+use Rattle.repeats.proofs.AllAndFilterOverARange.{each_passes, all_pass}
+use Rattle.repeats.proofs.group_acknowledgment.GroupAcknowledgment.fits.Goals as goal
 
 -- whether each bit from the first padding bit to the last octet's end is zero tells whether octets of the right length fit
 tells : (n : Numbers) (xs : List ℕ) (r : Bool) → length xs ≡ bitmap_octets n → r ≡ list_all (λ k. not (eqb (bit xs k) 1)) (range_with_len (bit_count n) (length xs * 8 - (bit_count n))) → Decides r (Fits n xs)

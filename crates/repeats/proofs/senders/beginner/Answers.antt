@@ -1,6 +1,6 @@
 use Rattle.std.proofs.Common.{sym, ◌∙◌}
-use Rattle.repeats.proofs.Serving.{unheld, held_begins}
-use Rattle.repeats.proofs.starts.beginner.Goals as goal
+use Rattle.repeats.proofs.OneGrantAtMostBegins.{unheld, held_begins}
+use Rattle.repeats.proofs.senders.beginner.Goals as goal
 
 pub returns-in_err-i : goal.returns-in_err-i
 returns-in_err-i g c =

@@ -12,9 +12,9 @@ use Rattle.repeats.specs.BitAndRepeatTimeslots.{before_bits, before_repeats, has
 use Rattle.repeats.specs.Bitmaps.{bit, acknowledged, missed, nothing_heard, Fits, Marks}
 use Rattle.repeats.specs.Starts.{zeros, may_repeat, has_room, repeat_start}
 use Rattle.repeats.specs.Laws.{BitsAlike}
-use Rattle.repeats.proofs.Alike.{zero_bit}
+use Rattle.repeats.proofs.EachGrantsBitsAreAlike.{zero_bit}
 use Rattle.repeats.proofs.BitsAndRepeatsLieApart.{place_is_counted, uncounted_is_past}
-use Rattle.repeats.proofs.Marking.{bit_past}
+use Rattle.repeats.proofs.MarkingSetsTheGrantsBits.{bit_past}
 
 -- what a beacon carries of a bitmap
 abbrev pub sent : Numbers → List ℕ → List ℕ
@@ -45,32 +45,3 @@ module _ (n : Numbers) (xs : List ℕ) where
   repeat_start_sent g h =
       ap (λ (b : Bool). cond ((may_repeat n g && b) && has_room n (zeros n (sent n xs) g.first) g.width) (Some (before_repeats n + zeros n (sent n xs) g.first + 1)) None) (missed_sent g.first h)
       ∙ ap (λ (z : ℕ). cond ((may_repeat n g && missed n xs g.first) && has_room n z g.width) (Some (before_repeats n + z + 1)) None) (zeros_sent g.first (omega arith))
-
-pub sent_alike : (m : PlanMeaning) (xs : List ℕ) → Rules m → BitsAlike m xs → BitsAlike m (sent m.numbers xs)
-sent_alike m xs rules alike i g at t held =
-    let w = grant_within m rules i g at in
-    acknowledged_sent m.numbers xs t (omega arith) ∙ alike i g at t held ∙ sym (acknowledged_sent m.numbers xs g.first (omega arith))
-
--- no bit is one that no timeslot has
-abbrev pub PaddingClear : Numbers → List ℕ → Type 0
-PaddingClear n xs = (k : ℕ) → bit_count n ≤ k → bit xs k ≡ 0
-
-pub nothing_clear : (n : Numbers) → PaddingClear n nothing_heard
-nothing_clear n k h = zero_bit k
-
-pub marked_clear : (m : PlanMeaning) (i : ℕ) (g : Grant) (xs ys : List ℕ) → Rules m → grant_at m i ≡ Some g → Marks m.numbers xs g ys → PaddingClear m.numbers xs → PaddingClear m.numbers ys
-marked_clear m i g xs ys rules at marks clear k h =
-    let w = grant_within m rules i g at in
-    let after = uncounted_is_past m.numbers k h in
-    let past = held_before (timeslot_with m.numbers k) g (omega arith) in
-    marks k ∙ cond-false _ _ _ (and_right _ _ past) ∙ clear k h
-
--- what a beacon carries of a whole bitmap fits
-pub sent_fits : (n : Numbers) (xs : List ℕ) → bitmap_octets n ≤ length xs → PaddingClear n xs → Fits n (sent n xs)
-sent_fits n xs long clear = record {
-  size = length-take-le (bitmap_octets n) xs long;
-  padding = λ k h. elim (cases_lt (k / 8) (bitmap_octets n)) [
-    | inl low ↦ ap (bits (k % 8) 1) (get_or-take (bitmap_octets n) xs (k / 8) 0 low) ∙ clear k h
-    | inr high ↦ bit_past (sent n xs) k (let e = length-take-le (bitmap_octets n) xs long in omega arith)
-  ];
-}

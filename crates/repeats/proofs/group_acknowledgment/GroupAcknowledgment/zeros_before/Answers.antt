@@ -3,8 +3,8 @@ use Rattle.std.proofs.lemmas.Iterator.{YieldsList-from_range}
 use Rattle.std.proofs.lemmas.Iterator.Consumers.{YieldsList-at, YieldsList-from_filter, count_from_yields_List}
 use borrow.Author.Tests.{tests}
 use Rattle.repeats.specs.Bitmaps.{missed}
-use Rattle.repeats.proofs.Ranges.{counted}
-use Rattle.repeats.proofs.bitmap.GroupAcknowledgment.zeros_before.Goals as goal
+use Rattle.repeats.proofs.AllAndFilterOverARange.{counted}
+use Rattle.repeats.proofs.group_acknowledgment.GroupAcknowledgment.zeros_before.Goals as goal
 
 pub returns : goal.returns
 returns c =
