@@ -18,7 +18,8 @@ starts_tells t (Some s) = (λ e. ap Some (eqb-true s t e), λ e. let q : s ≡ t
 
 module _ (m : PlanMeaning) (xs : List ℕ) (rules : Rules m) (alike : BitsAlike m xs) where
   -- one repeat at most starts at a timeslot
-  starts_once : (t i j : ℕ) (g h : Grant) → grant_at m i ≡ Some g → grant_at m j ≡ Some h → repeat_start m.numbers xs g ≡ Some t → repeat_start m.numbers xs h ≡ Some t → i ≡ j
+  starts_once : (t i j : ℕ) (g h : Grant) → grant_at m i ≡ Some g → grant_at m j ≡ Some h
+      → repeat_start m.numbers xs g ≡ Some t → repeat_start m.numbers xs h ≡ Some t → i ≡ j
   starts_once t i j g h here there e f =
       let v = grant_within m rules i g here in
       let w = grant_within m rules j h there in
@@ -26,7 +27,9 @@ module _ (m : PlanMeaning) (xs : List ℕ) (rules : Rules m) (alike : BitsAlike 
 
   pub names_repeater : (t : ℕ) → NamesRepeater m xs t (repeater_at m xs t)
   unfolding repeater_at
-  names_repeater t = names_the_one m rules (λ g. starts_at t (repeat_start m.numbers xs g)) (λ g. repeat_start m.numbers xs g ≡ Some t) (λ g. starts_tells t (repeat_start m.numbers xs g)) (starts_once t)
+  names_repeater t =
+      names_the_one m rules (λ g. starts_at t (repeat_start m.numbers xs g))
+      (λ g. repeat_start m.numbers xs g ≡ Some t) (λ g. starts_tells t (repeat_start m.numbers xs g)) (starts_once t)
 
   pub names_sender : (t : ℕ) → NamesSender m xs t (sender_at m xs t)
   unfolding sender_at
@@ -45,7 +48,8 @@ module _ (m : PlanMeaning) (xs : List ℕ) (rules : Rules m) (alike : BitsAlike 
         )
   ]
     where
-      own_timeslot : (g : Grant) → grant_at m i ≡ Some g → repeat_start m.numbers xs g ≡ Some t → for_retransmission m.numbers t ≡ false → ⊥
+      own_timeslot : (g : Grant) → grant_at m i ≡ Some g → repeat_start m.numbers xs g ≡ Some t
+          → for_retransmission m.numbers t ≡ false → ⊥
       own_timeslot g at q own =
           let w = grant_within m rules i g at in
           both_ways _ own (repeat_is_for_retransmission m.numbers xs g t (t, q, omega arith, omega arith))

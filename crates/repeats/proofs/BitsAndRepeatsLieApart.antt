@@ -9,7 +9,8 @@ use Rattle.repeats.specs.BitAndRepeatTimeslots.{before_bits, before_repeats, pla
 use Rattle.repeats.specs.Starts.{zeros}
 use Rattle.repeats.proofs.CountsOfNumbersBelow.{zeros_few}
 
-module _ (m : PlanMeaning) (rules : Rules m) (i : ℕ) (g : Grant) (at : grant_at m i ≡ Some g) (t : ℕ) (held : Holds g t) where
+module _ (m : PlanMeaning) (rules : Rules m) (i : ℕ) (g : Grant) (at : grant_at m i ≡ Some g) (t : ℕ)
+    (held : Holds g t) where
   -- a grant's own timeslots have a bit
   pub own_has_bit : before_bits m.numbers < t
   unfolding before_bits

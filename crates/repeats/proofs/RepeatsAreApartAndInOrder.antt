@@ -15,14 +15,17 @@ use Rattle.repeats.proofs.OneGrantAtMostBegins.{begins_once}
 
 module _ (m : PlanMeaning) (xs : List ℕ) (rules : Rules m) (alike : BitsAlike m xs) where
   -- all timeslots of a grant that is to repeat have bit zero
-  all_missed : (i : ℕ) (g : Grant) → grant_at m i ≡ Some g → wants_repeat m.numbers xs g ≡ true → (t : ℕ) → g.first ≤ t → t < g.first + g.width → missed m.numbers xs t ≡ true
+  all_missed : (i : ℕ) (g : Grant) → grant_at m i ≡ Some g → wants_repeat m.numbers xs g ≡ true → (t : ℕ)
+      → g.first ≤ t → t < g.first + g.width → missed m.numbers xs t ≡ true
   all_missed i g at wants t low high =
       let first = (and_parts (may_repeat m.numbers g) (missed m.numbers xs g.first) wants).1 in
       let bit = (and_parts (has_bit m.numbers g.first) (not (acknowledged m.numbers xs g.first)) first).1 in
       and_from _ _ (lt-ltb _ _ (own_has_bit m rules i g at t (low, high))) (ap not (alike i g at t (low, high)) ∙ bit)
 
   -- an earlier grant takes its share of timeslots before a later one counts
-  earlier : (i j : ℕ) (g h : Grant) → grant_at m i ≡ Some g → grant_at m j ≡ Some h → wants_repeat m.numbers xs g ≡ true → g.first < h.first → zeros m.numbers xs g.first + g.width ≤ zeros m.numbers xs h.first
+  earlier : (i j : ℕ) (g h : Grant) → grant_at m i ≡ Some g → grant_at m j ≡ Some h
+      → wants_repeat m.numbers xs g ≡ true → g.first < h.first
+      → zeros m.numbers xs g.first + g.width ≤ zeros m.numbers xs h.first
   earlier i j g h here there wants before =
       let run = count_run (missed m.numbers xs) g.first g.width (all_missed i g here wants) in
       elim (disjoint m rules i j g h here there differ) [
@@ -54,6 +57,8 @@ module _ (m : PlanMeaning) (xs : List ℕ) (rules : Rules m) (alike : BitsAlike 
       let y = started m.numbers xs h b.0 b.1 in
       elim (cases_order g.first h.first) [
         | inl e ↦ begins_once m rules h.first i j g h here there e refl
-        | inr (inl before) ↦ let o = (in_order i j g h here there x.0 y.0 before).wholly a.0 b.0 a.1 b.1 in absurd (omega arith)
-        | inr (inr after) ↦ let o = (in_order j i h g there here y.0 x.0 after).wholly b.0 a.0 b.1 a.1 in absurd (omega arith)
+        | inr (inl before) ↦ let o = (in_order i j g h here there x.0 y.0 before).wholly a.0 b.0 a.1 b.1 in
+            absurd (omega arith)
+        | inr (inr after) ↦ let o = (in_order j i h g there here y.0 x.0 after).wholly b.0 a.0 b.1 a.1 in
+            absurd (omega arith)
       ]

@@ -43,5 +43,7 @@ module _ (n : Numbers) (xs : List ℕ) where
   pub repeat_start_sent : (g : Grant) → g.first ≤ n.timeslots → repeat_start n (sent n xs) g ≡ repeat_start n xs g
   unfolding repeat_start
   repeat_start_sent g h =
-      ap (λ (b : Bool). cond ((may_repeat n g && b) && has_room n (zeros n (sent n xs) g.first) g.width) (Some (before_repeats n + zeros n (sent n xs) g.first + 1)) None) (missed_sent g.first h)
-      ∙ ap (λ (z : ℕ). cond ((may_repeat n g && missed n xs g.first) && has_room n z g.width) (Some (before_repeats n + z + 1)) None) (zeros_sent g.first (omega arith))
+      ap (λ (b : Bool). cond ((may_repeat n g && b) && has_room n (zeros n (sent n xs) g.first) g.width)
+      (Some (before_repeats n + zeros n (sent n xs) g.first + 1)) None) (missed_sent g.first h)
+      ∙ ap (λ (z : ℕ). cond ((may_repeat n g && missed n xs g.first) && has_room n z g.width)
+      (Some (before_repeats n + z + 1)) None) (zeros_sent g.first (omega arith))

@@ -12,4 +12,5 @@ pub returns : goal.returns
 returns g c =
     let m = g.P.SlotPlan.meaning c.args.plan.now in
     let rules = g.met.P.SlotPlan.keeps c.args.plan.now in
-    c.then_some.ensures ∙ held_begins m rules c.args.t c.in_ok-i.i c.in_ok-i.grant (sym c.grant_holding.ensures.answer ∙ c.in_ok-i.was)
+    c.then_some.ensures
+    ∙ held_begins m rules c.args.t c.in_ok-i.i c.in_ok-i.grant (sym c.grant_holding.ensures.answer ∙ c.in_ok-i.was)

@@ -18,9 +18,13 @@ returns g c =
     let lawful = g.met.P.SlotPlan.keeps c.args.plan.now in
     let xs = c.args.octets.now in
     let t = c.args.t in
-    let found = first_by_find g.P.SlotPlan.meaning m _ (λ (x : Grant). starts_at t (repeat_start c.numbers.result xs x)) (λ x b q k. search rules) c.of.result c.find.result c.find.new.self (ap g.P.SlotPlan.meaning c.of.ensures.plan) c.of.ensures.given c.find.ensures.ran in
+    let found = first_by_find g.P.SlotPlan.meaning m _
+    (λ (x : Grant). starts_at t (repeat_start c.numbers.result xs x))
+    (λ x b q k. search rules) c.of.result c.find.result c.find.new.self
+    (ap g.P.SlotPlan.meaning c.of.ensures.plan) c.of.ensures.given c.find.ensures.ran in
     let number : c.map.result ≡ option_map (λ x. x.0) c.find.result = search rules in
-    let e : c.map.result ≡ repeater_at m xs t = number ∙ found ∙ ap (λ (n : Numbers). first_grant m (λ x. starts_at t (repeat_start n xs x))) c.numbers.ensures in
+    let e : c.map.result ≡ repeater_at m xs t = number ∙ found
+    ∙ ap (λ (n : Numbers). first_grant m (λ x. starts_at t (repeat_start n xs x))) c.numbers.ensures in
     record {
       answer = e;
       names = λ alike. subst (NamesRepeater m xs t) (sym e) (names_repeater m xs lawful alike t);

@@ -10,5 +10,9 @@ pub returns : goal.returns
 returns c =
     let p = missed c.args.self.numbers c.args.self.octets.now in
     let t = c.args.t in
-    let e = count_from_yields_List c.filter.result c.count.result c.count.ensures.ran (YieldsList-from_filter _ p (YieldsList-at c.filter.ensures.source (YieldsList-from_range 0 t t refl (omega arith))) c.filter.ensures.closure (λ x b q k. search (rules, tests))) in
+    let e = count_from_yields_List c.filter.result c.count.result c.count.ensures.ran
+    (YieldsList-from_filter _ p
+    (YieldsList-at c.filter.ensures.source
+    (YieldsList-from_range 0 t t refl (omega arith))) c.filter.ensures.closure
+    (λ x b q k. search (rules, tests))) in
     e ∙ counted p t
