@@ -5,7 +5,7 @@ use Rattle.plan.specs.declared.grant.Grant.{Grant}
 use Rattle.plan.specs.declared.grant.Numbers.{Numbers}
 use Rattle.plan.specs.Rules.{PlanMeaning, Rules, grant_at, Holds}
 use Rattle.plan.proofs.Lawful.{grant_within}
-use Rattle.repeats.specs.BitAndRepeatTimeslots.{before_bits, before_repeats, place, timeslot_with, bit_count, for_retransmission}
+use Rattle.repeats.specs.BitAndRepeatTimeslots.{before_bits, before_repeats, place, bit_count, for_retransmission}
 use Rattle.repeats.specs.Starts.{zeros}
 use Rattle.repeats.proofs.CountsOfNumbersBelow.{zeros_few}
 

@@ -1,20 +1,15 @@
 -- The octets of a bitmap that a beacon carries say the same of every grant as the whole bitmap.
-use Rattle.std.proofs.Common.{◌≡◌, ℕ, zero, suc, ◌+◌, ◌/◌, ◌%◌, ◌<◌, ◌≤◌, Bool, cond, not, ◌&&◌, eqb, List, length, take, Some, None, sym, refl, ap, ◌∙◌, inl, inr, arith}
-use Rattle.std.proofs.lemmas.List.{get_or-take, length-take-le}
-use Rattle.std.proofs.lemmas.Bool.{and_left, and_right, cases_lt, cond-false, le-ltb}
+use Rattle.std.proofs.Common.{◌≡◌, ℕ, zero, suc, ◌+◌, ◌/◌, ◌%◌, ◌<◌, ◌≤◌, Bool, cond, not, ◌&&◌, eqb, List, take, Some, None, sym, refl, ap, ◌∙◌, inl, inr, arith}
+use Rattle.std.proofs.lemmas.List.{get_or-take}
+use Rattle.std.proofs.lemmas.Bool.{and_left, cases_lt, le-ltb}
 use Rattle.frame.specs.Octets.{bits}
 use Rattle.plan.specs.declared.grant.Grant.{Grant}
 use Rattle.plan.specs.declared.grant.Numbers.{Numbers}
-use Rattle.plan.specs.Rules.{PlanMeaning, Rules, grant_at, bitmap_octets}
-use Rattle.plan.specs.Decisions.{held_before}
-use Rattle.plan.proofs.Lawful.{grant_within}
-use Rattle.repeats.specs.BitAndRepeatTimeslots.{before_bits, before_repeats, has_bit, place, timeslot_with, bit_count}
-use Rattle.repeats.specs.Bitmaps.{bit, acknowledged, missed, nothing_heard, Fits, Marks}
+use Rattle.plan.specs.Rules.{bitmap_octets}
+use Rattle.repeats.specs.BitAndRepeatTimeslots.{before_bits, before_repeats, has_bit, place, bit_count}
+use Rattle.repeats.specs.Bitmaps.{bit, acknowledged, missed}
 use Rattle.repeats.specs.Starts.{zeros, may_repeat, has_room, repeat_start}
-use Rattle.repeats.specs.Laws.{BitsAlike}
-use Rattle.repeats.proofs.EachGrantsBitsAreAlike.{zero_bit}
-use Rattle.repeats.proofs.BitsAndRepeatsLieApart.{place_is_counted, uncounted_is_past}
-use Rattle.repeats.proofs.MarkingSetsTheGrantsBits.{bit_past}
+use Rattle.repeats.proofs.BitsAndRepeatsLieApart.{place_is_counted}
 
 -- what a beacon carries of a bitmap
 abbrev pub sent : Numbers → List ℕ → List ℕ
