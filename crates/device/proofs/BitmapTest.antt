@@ -4,7 +4,7 @@ use Rattle.std.proofs.lemmas.Bool.{and_parts, and_from, eqb-true, eq-eqb, cases_
 use Rattle.plan.specs.declared.grant.Numbers.{Numbers}
 use Rattle.plan.specs.Rules.{bitmap_octets}
 use Rattle.repeats.specs.Bitmaps.{bit, Fits}
-use Rattle.repeats.proofs.Marking.{bit_past}
+use Rattle.repeats.proofs.MarkingSetsTheGrantsBits.{bit_past}
 use Rattle.device.specs.Beacons.{clear, bitmap_fits}
 use Rattle.device.proofs.TestsAgree.{decides_alike}
 

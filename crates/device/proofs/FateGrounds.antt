@@ -10,7 +10,7 @@ use Rattle.plan.specs.declared.grant.Numbers.{Numbers}
 use Rattle.repeats.specs.BitAndRepeatTimeslots.{has_bit}
 use Rattle.repeats.specs.Bitmaps.{acknowledged}
 use Rattle.repeats.specs.Starts.{may_repeat, repeat_start}
-use Rattle.repeats.proofs.Starting.{unwanted}
+use Rattle.repeats.proofs.WhenRepeatsStart.{unwanted}
 use Rattle.device.specs.declared.device.Device.{Device}
 use Rattle.device.specs.declared.fate.Fate.{Fate}
 use Rattle.device.specs.declared.fate.Fate.TheVariants as fate

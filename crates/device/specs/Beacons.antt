@@ -13,7 +13,7 @@ use Rattle.frame.specs.Messages.{State, online, discovery, configuration, reset}
 use Rattle.frame.specs.Refusals.{fault}
 use Rattle.plan.specs.declared.grant.Numbers.{Numbers}
 use Rattle.plan.specs.Rules.{bitmap_octets}
-use Rattle.repeats.specs.declared.bitmap.GroupAcknowledgment.{GroupAcknowledgment}
+use Rattle.repeats.specs.declared.group_acknowledgment.GroupAcknowledgment.{GroupAcknowledgment}
 use Rattle.repeats.specs.Bitmaps.{bit}
 use Rattle.device.specs.declared.beacon.Beacon as code
 use Rattle.device.specs.Configurations.{numbers_in}

@@ -27,9 +27,9 @@ use Rattle.repeats.specs.BitAndRepeatTimeslots.{before_bits, place, timeslot_wit
 use Rattle.repeats.specs.Bitmaps.{bit, acknowledged, nothing_heard, marked_with}
 use Rattle.repeats.specs.Starts.{sender_at}
 use Rattle.repeats.specs.Laws.{BitsAlike}
-use Rattle.repeats.proofs.Alike.{always_alike, stays_alike}
+use Rattle.repeats.proofs.EachGrantsBitsAreAlike.{always_alike, stays_alike}
 use Rattle.repeats.proofs.BitsAndRepeatsLieApart.{own_has_bit}
-use Rattle.repeats.proofs.Marking.{length-with_timeslots, marks}
+use Rattle.repeats.proofs.MarkingSetsTheGrantsBits.{length-with_timeslots, marks}
 use Rattle.cargo.specs.Passing.{Receives}
 use Rattle.coordinator.specs.declared.state.Heard.{Heard}
 use Rattle.coordinator.specs.declared.state.Inner.{Inner}

@@ -8,7 +8,7 @@ use Rattle.plan.specs.Rules.{PlanMeaning, Rules, grant_at}
 use Rattle.plan.proofs.Lawful.{grant_within, at_most_one_holder}
 use Rattle.repeats.specs.Starts.{repeat_start}
 use Rattle.repeats.specs.Laws.{BitsAlike}
-use Rattle.repeats.proofs.Serving.{apart}
+use Rattle.repeats.proofs.RepeatsAreApartAndInOrder.{apart}
 use Rattle.repeats.proofs.BitsAndRepeatsLieApart.{own_is_not_for_retransmission}
 use Rattle.repeats.proofs.RepeatsAreForRetransmission.{repeat_is_for_retransmission}
 use Rattle.coordinator.specs.declared.state.Inner.{Inner}

@@ -12,8 +12,8 @@ use Rattle.repeats.specs.BitAndRepeatTimeslots as offsets
 use Rattle.repeats.specs.BitAndRepeatTimeslots.{for_retransmission}
 use Rattle.repeats.specs.Starts.{repeat_start, sender_at}
 use Rattle.repeats.specs.Laws.{BitsAlike}
-use Rattle.repeats.proofs.Serving.{names_sender}
-use Rattle.repeats.proofs.Starting.{started}
+use Rattle.repeats.proofs.AnswersNameTheSender.{names_sender}
+use Rattle.repeats.proofs.WhenRepeatsStart.{started}
 use Rattle.cargo.specs.Images.{Apart}
 use Rattle.cargo.specs.Passing.{Receives}
 use Rattle.cargo.proofs.Deliveries.{delivered}

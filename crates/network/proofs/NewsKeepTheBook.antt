@@ -19,8 +19,8 @@ use Rattle.repeats.specs.BitAndRepeatTimeslots.{before_bits, before_repeats}
 use Rattle.repeats.specs.Bitmaps.{acknowledged}
 use Rattle.repeats.specs.Bitmaps as bitmaps
 use Rattle.repeats.specs.Starts.{repeat_start, may_repeat}
-use Rattle.repeats.proofs.Sending.{acknowledged_sent, repeat_start_sent}
-use Rattle.repeats.proofs.Starting.{started}
+use Rattle.repeats.proofs.SentBitmapsSayTheSame.{acknowledged_sent, repeat_start_sent}
+use Rattle.repeats.proofs.WhenRepeatsStart.{started}
 use Rattle.coordinator.specs.declared.state.Inner.{Inner}
 use Rattle.coordinator.specs.Beacons.{configuration_for, header_of, beacon_in, state_of}
 use Rattle.coordinator.specs.Steps.{beacon_of}

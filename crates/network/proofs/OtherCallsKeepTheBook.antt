@@ -10,7 +10,7 @@ use Rattle.plan.specs.declared.grant.Numbers.{Numbers}
 use Rattle.plan.specs.Rules.{PlanMeaning}
 use Rattle.repeats.specs.BitAndRepeatTimeslots.{place}
 use Rattle.repeats.specs.Bitmaps.{acknowledged, nothing_heard}
-use Rattle.repeats.proofs.Alike.{zero_bit}
+use Rattle.repeats.proofs.EachGrantsBitsAreAlike.{zero_bit}
 use Rattle.coordinator.specs.declared.state.Inner.{Inner}
 use Rattle.coordinator.specs.declared.state.Mode.{Mode}
 use Rattle.coordinator.specs.declared.state.Opened.{Opened}

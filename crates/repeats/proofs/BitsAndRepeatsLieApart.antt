@@ -5,11 +5,12 @@ use Rattle.plan.specs.declared.grant.Grant.{Grant}
 use Rattle.plan.specs.declared.grant.Numbers.{Numbers}
 use Rattle.plan.specs.Rules.{PlanMeaning, Rules, grant_at, Holds}
 use Rattle.plan.proofs.Lawful.{grant_within}
-use Rattle.repeats.specs.BitAndRepeatTimeslots.{before_bits, before_repeats, place, timeslot_with, bit_count, for_retransmission}
+use Rattle.repeats.specs.BitAndRepeatTimeslots.{before_bits, before_repeats, place, bit_count, for_retransmission}
 use Rattle.repeats.specs.Starts.{zeros}
-use Rattle.repeats.proofs.Counting.{zeros_few}
+use Rattle.repeats.proofs.CountsOfNumbersBelow.{zeros_few}
 
-module _ (m : PlanMeaning) (rules : Rules m) (i : ℕ) (g : Grant) (at : grant_at m i ≡ Some g) (t : ℕ) (held : Holds g t) where
+module _ (m : PlanMeaning) (rules : Rules m) (i : ℕ) (g : Grant) (at : grant_at m i ≡ Some g) (t : ℕ)
+    (held : Holds g t) where
   -- a grant's own timeslots have a bit
   pub own_has_bit : before_bits m.numbers < t
   unfolding before_bits
@@ -28,11 +29,6 @@ module _ (n : Numbers) where
   pub place_is_counted : (t : ℕ) → before_bits n < t → t ≤ n.timeslots → place n t < bit_count n
   unfolding before_bits
   place_is_counted t above within = omega arith
-
-  -- and those that are not counted belong to no timeslot of a plan
-  pub uncounted_is_past : (k : ℕ) → bit_count n ≤ k → n.timeslots < timeslot_with n k
-  unfolding before_bits
-  uncounted_is_past k past = omega arith
 
   -- the number of the timeslot in which a repeat starts does not pass a number of its octet
   pub repeat_starts_low : (xs : List ℕ) (t : ℕ) → before_repeats n + zeros n xs t ≤ t - 1

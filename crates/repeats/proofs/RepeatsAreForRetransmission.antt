@@ -5,9 +5,10 @@ use Rattle.plan.specs.declared.grant.Grant.{Grant}
 use Rattle.plan.specs.declared.grant.Numbers.{Numbers}
 use Rattle.repeats.specs.BitAndRepeatTimeslots.{before_repeats, for_retransmission}
 use Rattle.repeats.specs.Laws.{RepeatsIn}
-use Rattle.repeats.proofs.Starting.{started}
+use Rattle.repeats.proofs.WhenRepeatsStart.{started}
 
-pub repeat_is_for_retransmission : (n : Numbers) (xs : List ℕ) (g : Grant) (t : ℕ) → RepeatsIn n xs g t → for_retransmission n t ≡ true
+pub repeat_is_for_retransmission : (n : Numbers) (xs : List ℕ) (g : Grant) (t : ℕ) → RepeatsIn n xs g t
+    → for_retransmission n t ≡ true
 repeat_is_for_retransmission n xs g t r =
     let s = started n xs g r.0 r.1 in
     let above : before_repeats n < t = omega arith in

@@ -1,4 +1,5 @@
--- Group acknowledgment bitmaps: a bit for each base timeslot that is not for retransmission, one where it is acknowledged.
+-- Group acknowledgment bitmaps: a bit for each base timeslot that is not for retransmission, one where it is
+-- acknowledged.
 use Rattle.std.specs.Prelude.{◌≡◌, ℕ, zero, suc, ◌+◌, ◌/◌, ◌%◌, ◌^◌, ◌≤◌, Bool, cond, not, ◌&&◌, List, length, replicate, ◌==◌, bit_or, nat_lt, slice_set}
 use Rattle.frame.specs.Octets.{bits, octet}
 use Rattle.plan.specs.declared.grant.Grant.{Grant}

@@ -2,19 +2,22 @@ use Rattle.std.proofs.Common.{◌≡◌, ℕ, suc, ◌+◌, ◌-◌, ◌≤◌, 
 use Rattle.plan.specs.declared.grant.Grant.{Grant}
 use Rattle.plan.specs.declared.grant.Numbers.{Numbers}
 use Rattle.repeats.specs.Bitmaps.{with_timeslot, with_timeslots, marked_with, Marks}
-use Rattle.repeats.proofs.Alike.{always_alike, stays_alike}
-use Rattle.repeats.proofs.Marking.{length-with_timeslots, marks}
+use Rattle.repeats.proofs.EachGrantsBitsAreAlike.{always_alike, stays_alike}
+use Rattle.repeats.proofs.MarkingSetsTheGrantsBits.{length-with_timeslots, marks}
 use Rattle.repeats.proofs.bitmap.marked.Goals as goal
 
 -- one more timeslot is marked
-one_more : (n : Numbers) (xs ys zs : List ℕ) (f t : ℕ) → f ≤ t → ys ≡ with_timeslots n xs f (t - f) → zs ≡ with_timeslot n ys t → zs ≡ with_timeslots n xs f (t + 1 - f)
+one_more : (n : Numbers) (xs ys zs : List ℕ) (f t : ℕ) → f ≤ t → ys ≡ with_timeslots n xs f (t - f)
+    → zs ≡ with_timeslot n ys t → zs ≡ with_timeslots n xs f (t + 1 - f)
 one_more n xs ys zs f t low e h =
     let here : f + (t - f) ≡ t = omega arith in
     let next : t + 1 - f ≡ suc (t - f) = omega arith in
-    h ∙ ap (with_timeslot n ys) (sym here) ∙ ap (λ (x : List ℕ). with_timeslot n x (f + (t - f))) e ∙ sym (ap (with_timeslots n xs f) next)
+    h ∙ ap (with_timeslot n ys) (sym here) ∙ ap (λ (x : List ℕ). with_timeslot n x (f + (t - f))) e
+    ∙ sym (ap (with_timeslots n xs f) next)
 
 -- what the loop ends with is the marked bitmap
-ended : (n : Numbers) (xs ys : List ℕ) (g : Grant) (t : ℕ) → t ≡ g.first + g.width → ys ≡ with_timeslots n xs g.first (t - g.first) → ys ≡ marked_with n xs g
+ended : (n : Numbers) (xs ys : List ℕ) (g : Grant) (t : ℕ) → t ≡ g.first + g.width
+    → ys ≡ with_timeslots n xs g.first (t - g.first) → ys ≡ marked_with n xs g
 ended n xs ys g t past e = e ∙ ap (with_timeslots n xs g.first) (omega arith)
 
 -- marking keeps the length

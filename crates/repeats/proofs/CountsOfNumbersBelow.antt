@@ -26,7 +26,9 @@ module _ (p : ℕ → Bool) where
       ]
 
   pub count_up : (a b : ℕ) → a ≤ b → count_below p a ≤ count_below p b
-  count_up a b h = let e : a + (b - a) ≡ b = omega arith in let s = ap (count_below p) e in let g = count_grows a (b - a) in omega arith
+  count_up a b h =
+      let e : a + (b - a) ≡ b = omega arith in let s = ap (count_below p) e in let g = count_grows a (b - a) in
+      omega arith
 
   -- a run of numbers that all pass adds its length
   pub count_run : (a w : ℕ) → ((t : ℕ) → a ≤ t → t < a + w → p t ≡ true) → count_below p (a + w) ≡ count_below p a + w

@@ -9,12 +9,15 @@ use Rattle.plan.specs.declared.grant.Numbers.{Numbers}
 use Rattle.plan.specs.Rules.{bitmap_octets}
 use Rattle.repeats.specs.BitAndRepeatTimeslots.{bit_count}
 use Rattle.repeats.specs.Bitmaps.{bit, Fits}
-use Rattle.repeats.proofs.Marking.{bit_past}
-use Rattle.repeats.proofs.Ranges.{each_passes, all_pass}
-use Rattle.repeats.proofs.bitmap.GroupAcknowledgment.fits.Goals as goal
+use Rattle.repeats.proofs.MarkingSetsTheGrantsBits.{bit_past}
+use Rattle.repeats.proofs.AllAndFilterOverARange.{each_passes, all_pass}
+use Rattle.repeats.proofs.group_acknowledgment.GroupAcknowledgment.fits.Goals as goal
 
--- whether each bit from the first padding bit to the last octet's end is zero tells whether octets of the right length fit
-tells : (n : Numbers) (xs : List ℕ) (r : Bool) → length xs ≡ bitmap_octets n → r ≡ list_all (λ k. not (eqb (bit xs k) 1)) (range_with_len (bit_count n) (length xs * 8 - (bit_count n))) → Decides r (Fits n xs)
+-- whether each bit from the first padding bit to the last octet's end is zero tells whether octets of the right
+-- length fit
+tells : (n : Numbers) (xs : List ℕ) (r : Bool) → length xs ≡ bitmap_octets n
+    → r ≡ list_all (λ k. not (eqb (bit xs k) 1)) (range_with_len (bit_count n) (length xs * 8 - (bit_count n)))
+    → Decides r (Fits n xs)
 tells n xs r size e = (
   λ h. record {
     size = size;
@@ -33,4 +36,5 @@ returns-then-self-bitmap_octets c =
     let n = c.args.self.numbers in
     let xs = c.args.self.octets.now in
     tells n xs c.all.result (search rules)
-    (all_from_yields_List (λ k. not (eqb (bit xs k) 1)) _ _ c.all.result c.all.ensures.ran (YieldsList-from_range (bit_count n) (length xs * 8) _ (search rules) refl) (λ x b q k. search (rules, tests)))
+    (all_from_yields_List (λ k. not (eqb (bit xs k) 1)) _ _ c.all.result c.all.ensures.ran
+    (YieldsList-from_range (bit_count n) (length xs * 8) _ (search rules) refl) (λ x b q k. search (rules, tests)))

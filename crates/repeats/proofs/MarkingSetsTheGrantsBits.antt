@@ -41,9 +41,12 @@ pub or_bit : (x k i : ℕ) → bits i 1 (bit_or x (2 ^ k)) ≡ cond (eqb i k) 1 
 or_bit x k i =
     or_digits x k i
     ∙ elim (cases_order i k) [
-      | inl e ↦ ap (λ (j : ℕ). bit_or (x / 2 ^ i % 2) (2 ^ k / 2 ^ j % 2)) e ∙ ap (bit_or (x / 2 ^ i % 2)) (power_same k) ∙ or_one (x / 2 ^ i) ∙ sym (cond-true _ _ _ (eq-eqb i k e))
-      | inr (inl h) ↦ ap (bit_or (x / 2 ^ i % 2)) (power_below k i h) ∙ or_zero_r _ ∙ sym (cond-false _ _ _ (ne_eqb i k (λ e. omega arith)))
-      | inr (inr h) ↦ ap (bit_or (x / 2 ^ i % 2)) (power_above k i h) ∙ or_zero_r _ ∙ sym (cond-false _ _ _ (ne_eqb i k (λ e. omega arith)))
+      | inl e ↦ ap (λ (j : ℕ). bit_or (x / 2 ^ i % 2) (2 ^ k / 2 ^ j % 2)) e
+          ∙ ap (bit_or (x / 2 ^ i % 2)) (power_same k) ∙ or_one (x / 2 ^ i) ∙ sym (cond-true _ _ _ (eq-eqb i k e))
+      | inr (inl h) ↦ ap (bit_or (x / 2 ^ i % 2)) (power_below k i h) ∙ or_zero_r _
+          ∙ sym (cond-false _ _ _ (ne_eqb i k (λ e. omega arith)))
+      | inr (inr h) ↦ ap (bit_or (x / 2 ^ i % 2)) (power_above k i h) ∙ or_zero_r _
+          ∙ sym (cond-false _ _ _ (ne_eqb i k (λ e. omega arith)))
     ]
 
 same_tests : (j k : ℕ) → j / 8 ≡ k / 8 → eqb (j % 8) (k % 8) ≡ eqb j k
@@ -80,10 +83,12 @@ length-with_timeslot n xs t = elim (cases_lt (before_bits n) t) [
 
 pub length-with_timeslots : (n : Numbers) (xs : List ℕ) (f c : ℕ) → length (with_timeslots n xs f c) ≡ length xs
 length-with_timeslots n xs f zero = refl
-length-with_timeslots n xs f (suc c) = length-with_timeslot n (with_timeslots n xs f c) (f + c) ∙ length-with_timeslots n xs f c
+length-with_timeslots n xs f (suc c) =
+    length-with_timeslot n (with_timeslots n xs f c) (f + c) ∙ length-with_timeslots n xs f c
 
 -- acknowledging timeslot t sets its bit, and leaves the others
-slot_bits : (n : Numbers) (xs : List ℕ) (t k : ℕ) → length xs ≡ 32 → bit (with_timeslot n xs t) k ≡ cond (ltb k 256 && eqb t (timeslot_with n k)) 1 (bit xs k)
+slot_bits : (n : Numbers) (xs : List ℕ) (t k : ℕ) → length xs ≡ 32
+    → bit (with_timeslot n xs t) k ≡ cond (ltb k 256 && eqb t (timeslot_with n k)) 1 (bit xs k)
 slot_bits n xs t k len = elim (cases_lt (before_bits n) t) [
   | inl h ↦ ap (λ (ys : List ℕ). bit ys k) (cond-true _ _ _ (lt-ltb _ _ h)) ∙ (elim (cases_lt (place n t) 256) [
     | inl s ↦ with_bit_bits xs (place n t) k (omega arith) ∙ ap (λ (b : Bool). cond b 1 (bit xs k)) (there h s)
@@ -91,7 +96,8 @@ slot_bits n xs t k len = elim (cases_lt (before_bits n) t) [
         ap (λ (ys : List ℕ). bit ys k) (set_past xs _ _ (omega arith))
         ∙ sym (cond-false _ _ _ (past s))
   ])
-  | inr h ↦ ap (λ (ys : List ℕ). bit ys k) (cond-false _ _ _ (le-ltb _ _ h)) ∙ sym (cond-false _ _ _ (and_right _ _ (ne_eqb t _ (λ e. omega arith))))
+  | inr h ↦ ap (λ (ys : List ℕ). bit ys k) (cond-false _ _ _ (le-ltb _ _ h))
+      ∙ sym (cond-false _ _ _ (and_right _ _ (ne_eqb t _ (λ e. omega arith))))
 ]
   where
     there : before_bits n < t → place n t < 256 → eqb k (place n t) ≡ (ltb k 256 && eqb t (timeslot_with n k))
@@ -100,11 +106,15 @@ slot_bits n xs t k len = elim (cases_lt (before_bits n) t) [
     past : 256 ≤ place n t → (ltb k 256 && eqb t (timeslot_with n k)) ≡ false
     past s = grind (arith, nat_tests)
 
-one_further : (a : Bool) (f c s b : ℕ) → cond (a && eqb (f + c) s) 1 (cond (a && (leb f s && ltb s (f + c))) 1 b) ≡ cond (a && (leb f s && ltb s (f + suc c))) 1 b
+one_further : (a : Bool) (f c s b : ℕ)
+    → cond (a && eqb (f + c) s) 1 (cond (a && (leb f s && ltb s (f + c))) 1 b) ≡ cond
+    (a && (leb f s && ltb s (f + suc c))) 1 b
 one_further a f c s b = let e = add-suc f c in grind (arith, nat_tests)
 
 -- the same of a run of timeslots
-pub slots_bits : (n : Numbers) (xs : List ℕ) (f c k : ℕ) → length xs ≡ 32 → bit (with_timeslots n xs f c) k ≡ cond (ltb k 256 && (leb f (timeslot_with n k) && ltb (timeslot_with n k) (f + c))) 1 (bit xs k)
+pub slots_bits : (n : Numbers) (xs : List ℕ) (f c k : ℕ) → length xs ≡ 32
+    → bit (with_timeslots n xs f c) k ≡ cond
+    (ltb k 256 && (leb f (timeslot_with n k) && ltb (timeslot_with n k) (f + c))) 1 (bit xs k)
 slots_bits n xs f zero k len = grind (arith, nat_tests)
 slots_bits n xs f (suc c) k len =
     slot_bits n (with_timeslots n xs f c) (f + c) k (length-with_timeslots n xs f c ∙ len)

@@ -3,7 +3,7 @@ use Rattle.std.proofs.Common.{◌≡◌, ℕ, zero, suc, ◌+◌, ◌<◌, ◌�
 use Rattle.std.specs.List.{range_with_len, list_all, filter}
 use Rattle.std.proofs.lemmas.Bool.{cases_Bool, cases_eq, and_parts, and_from}
 use Rattle.repeats.specs.Starts.{count_below}
-use Rattle.repeats.proofs.Counting.{count_hit, count_skip}
+use Rattle.repeats.proofs.CountsOfNumbersBelow.{count_hit, count_skip}
 
 module _ (p : ℕ → Bool) where
   -- all pass
