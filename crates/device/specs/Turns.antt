@@ -1,7 +1,7 @@
 -- What a turn in a timeslot answers, and the state and memory that it leaves.
 use Rattle.std.specs.Prelude.{ℕ, cond, List, is_ok, Result}
 use Rattle.frame.specs.declared.faults.Fault.{Fault}
-use Rattle.frame.specs.declared.frames.Configuration.{Configuration}
+use Rattle.frame.specs.declared.command.Configuration.{Configuration}
 use Rattle.frame.specs.Writing.{fitting, left_by}
 use Rattle.device.specs.declared.state.Device.{Device}
 use Rattle.device.specs.Steps.{Turn, fresh_turn, frame_of, after_turn}

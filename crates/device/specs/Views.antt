@@ -2,10 +2,10 @@
 use Rattle.std.specs.Prelude.{ℕ, cond, List, Some, None, Ok, Err, Option, Result}
 use Rattle.std.specs.Option.{option_map}
 use Rattle.frame.specs.declared.faults.Fault.{Fault}
-use Rattle.frame.specs.declared.frames.BeaconHeader.{BeaconHeader}
-use Rattle.frame.specs.declared.frames.BeaconState.{BeaconState}
-use Rattle.frame.specs.declared.frames.BeaconState.TheVariants as state
-use Rattle.frame.specs.declared.frames.Configuration.{Configuration}
+use Rattle.frame.specs.declared.beacon.BeaconHeader.{BeaconHeader}
+use Rattle.frame.specs.declared.beacon.BeaconState.{BeaconState}
+use Rattle.frame.specs.declared.beacon.BeaconState.TheVariants as state
+use Rattle.frame.specs.declared.command.Configuration.{Configuration}
 use Rattle.frame.specs.Messages.{online, discovery, configuration, reset}
 use Rattle.device.specs.declared.hearing.Beacon as code
 use Rattle.device.specs.declared.rules.Member.{Member}

@@ -1,8 +1,8 @@
 -- What holds of both ends after every run: of each device that has a grant, of each that has none, and of the coordinator.
 use Rattle.std.proofs.Common.{◌≡◌, ℕ, suc, ◌-◌, ◌≤◌, Bool, true, false, cond, not, ◌&&◌, ◌⊎◌, List, [], ◌∷◌, length, Some, None, Option}
-use Rattle.frame.specs.declared.frames.Acknowledged.TheVariants as acknowledged
-use Rattle.frame.specs.declared.frames.Command.TheVariants as commands
-use Rattle.frame.specs.declared.frames.Configuration.{Configuration}
+use Rattle.frame.specs.declared.acknowledgment.Acknowledged.TheVariants as acknowledged
+use Rattle.frame.specs.declared.command.Command.TheVariants as commands
+use Rattle.frame.specs.declared.command.Configuration.{Configuration}
 use Rattle.frame.specs.Messages.{data_frame, acknowledgment_frame, command_frame, octets_of}
 use Rattle.plan.specs.declared.grant.Grant.{Grant}
 use Rattle.plan.specs.declared.grant.Numbers.{Numbers}
