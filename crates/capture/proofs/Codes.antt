@@ -2,8 +2,8 @@
 use Rattle.std.proofs.Common.{◌≡◌, ◌-◌, ◌^◌, false, [], arith}
 use Rattle.std.specs.Fmt.{padded_integral, format_spec, digits}
 use Rattle.std.proofs.lemmas.Fmt.{hex_byte}
-use Rattle.frame.specs.declared.frames.Acknowledged.{Acknowledged}
-use Rattle.frame.specs.declared.frames.Acknowledged.TheVariants as acknowledged
+use Rattle.frame.specs.declared.acknowledgment.Acknowledged.{Acknowledged}
+use Rattle.frame.specs.declared.acknowledgment.Acknowledged.TheVariants as acknowledged
 use Rattle.frame.specs.Messages.{type_code}
 use Rattle.hexadecimal.specs.Grammar.{octet_digits}
 

@@ -4,7 +4,7 @@ use Rattle.frame.specs.declared.faults.Fault.{Fault}
 use Rattle.frame.specs.declared.frames.Frame.{Frame}
 use Rattle.frame.specs.Formats.{reading}
 use Rattle.frame.specs.Views.{seen}
-use Rattle.frame.proofs.Start.{told_by_start}
+use Rattle.frame.proofs.LongOctets.{told_by_start}
 use Rattle.hexadecimal.specs.LineOf.{LineTold, skipped, not_octets, these_octets, kept}
 use Rattle.capture.specs.Reports.{Reported, answered, reported, report_from, report_seen}
 

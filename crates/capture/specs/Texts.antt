@@ -1,17 +1,18 @@
 -- What is reported of a frame, as text: `name@place=value` for each part and each number of it.
 use Rattle.std.specs.Prelude.{ℕ, List, ◌++◌, reverse, codes, decimal}
-use Rattle.frame.specs.declared.frames.Acknowledged.{Acknowledged}
-use Rattle.frame.specs.declared.frames.BeaconHeader.{BeaconHeader}
-use Rattle.frame.specs.declared.frames.BeaconState.{BeaconState}
-use Rattle.frame.specs.declared.frames.BeaconState.TheVariants as state
-use Rattle.frame.specs.declared.frames.Command.{Command}
-use Rattle.frame.specs.declared.frames.Command.TheVariants as commands
-use Rattle.frame.specs.declared.frames.Configuration.{Configuration}
+use Rattle.frame.specs.declared.acknowledgment.Acknowledged.{Acknowledged}
+use Rattle.frame.specs.declared.beacon.BeaconHeader.{BeaconHeader}
+use Rattle.frame.specs.declared.beacon.BeaconState.{BeaconState}
+use Rattle.frame.specs.declared.beacon.BeaconState.TheVariants as state
+use Rattle.frame.specs.declared.command.Command.{Command}
+use Rattle.frame.specs.declared.command.Command.TheVariants as commands
+use Rattle.frame.specs.declared.command.Configuration.{Configuration}
 use Rattle.frame.specs.declared.frames.Frame.{Frame}
 use Rattle.frame.specs.declared.frames.Frame.TheVariants as frame
-use Rattle.frame.specs.declared.frames.Part.{Part}
-use Rattle.frame.specs.declared.frames.Wish.{Wish}
-use Rattle.frame.specs.Messages.{type_code, direction_text}
+use Rattle.frame.specs.declared.part.Part.{Part}
+use Rattle.frame.specs.declared.command.Wish.{Wish}
+use Rattle.frame.specs.Messages.{type_code}
+use Rattle.frame.specs.Directions.{direction_text}
 use Rattle.frame.specs.Octets.{octet, little}
 use Rattle.hexadecimal.specs.Grammar.{text_of, octet_digits}
 

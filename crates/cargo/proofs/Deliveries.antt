@@ -3,7 +3,7 @@ use Rattle.std.proofs.Common.{◌≡◌, ℕ, ◌≤◌, List, ◌∷◌, length
 use Rattle.frame.specs.declared.faults.Fault.{Fault}
 use Rattle.frame.specs.Formats.{Told}
 use Rattle.frame.specs.Messages.{data_frame}
-use Rattle.frame.proofs.Returns.{reads_back}
+use Rattle.frame.proofs.WrittenReadsBack.{reads_back}
 use Rattle.cargo.specs.Images.{Reads, Apart}
 use Rattle.cargo.specs.Passing.{Taken, Receives, Delivered}
 

@@ -7,8 +7,8 @@ use Rattle.std.specs.Int.Signed.{mag}
 use Rattle.std.specs.Int.{w32}
 use Rattle.std.proofs.lemmas.Int.{to_z-of_z, of_z-to_z}
 use Rattle.frame.specs.Octets.{octet, value, little}
-use Rattle.frame.proofs.Exact.{little_value}
-use Rattle.frame.proofs.Numbers.{value_little}
+use Rattle.frame.proofs.ReadWritesBack.{little_value}
+use Rattle.frame.proofs.OctetNumbers.{value_little}
 use Rattle.cargo.specs.declared.reading.Reading.{Reading}
 use Rattle.cargo.specs.Readings.{complement, reading_image, image_of}
 

@@ -5,7 +5,7 @@ use mathlib.Core.HLevel.{is_prop→PathP}
 use Rattle.std.proofs.Math.Bridge.{le_prop}
 use Rattle.std.proofs.Math.Nat.{ℕ_set}
 use Rattle.frame.specs.Octets.{octet, value, little}
-use Rattle.frame.proofs.Numbers.{value_little}
+use Rattle.frame.proofs.OctetNumbers.{value_little}
 use Rattle.cargo.specs.declared.panel.Panel.{Panel}
 use Rattle.cargo.specs.Inputs.{inputs_in, octets_for, panel_image}
 use Rattle.cargo.specs.Panels.{inputs_of, image_of, ImagesNone}

@@ -2,10 +2,10 @@
 use Rattle.std.specs.Prelude.{◌≡◌, ℕ, ◌+◌, ◌-◌, ◌%◌, ◌^◌, Bool, true, false, cond, not, ◌&&◌, ◌||◌, List, [], length, replicate, is_ok, Some, None, Ok, Err, Option, Result, ◌==◌, nat_le, nat_lt, slice_index_or, slice_set}
 use Rattle.frame.specs.declared.faults.Fault.{Fault}
 use Rattle.frame.specs.declared.faults.Refusal.TheVariants as refusal
-use Rattle.frame.specs.declared.frames.Acknowledged.{Acknowledged}
-use Rattle.frame.specs.declared.frames.Acknowledged.TheVariants as acknowledged
-use Rattle.frame.specs.declared.frames.Command.{Command}
-use Rattle.frame.specs.declared.frames.Command.TheVariants as commands
+use Rattle.frame.specs.declared.acknowledgment.Acknowledged.{Acknowledged}
+use Rattle.frame.specs.declared.acknowledgment.Acknowledged.TheVariants as acknowledged
+use Rattle.frame.specs.declared.command.Command.{Command}
+use Rattle.frame.specs.declared.command.Command.TheVariants as commands
 use Rattle.frame.specs.Formats.{Told, reading}
 use Rattle.frame.specs.Messages.{Message, acknowledgment_frame, command_frame, octets_of, State, online, discovery, configuration}
 use Rattle.frame.specs.Refusals.{fault}

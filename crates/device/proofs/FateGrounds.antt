@@ -2,8 +2,8 @@
 use Rattle.std.proofs.Common.{◌≡◌, ℕ, Bool, true, false, cond, not, List, is_some, Some, None, Ok, Option, Result, sym, refl, ap, ◌∙◌}
 use Rattle.std.proofs.lemmas.Bool.{and_right}
 use Rattle.frame.specs.declared.faults.Fault.{Fault}
-use Rattle.frame.specs.declared.frames.BeaconHeader.{BeaconHeader}
-use Rattle.frame.specs.declared.frames.Configuration.{Configuration}
+use Rattle.frame.specs.declared.beacon.BeaconHeader.{BeaconHeader}
+use Rattle.frame.specs.declared.command.Configuration.{Configuration}
 use Rattle.frame.specs.Messages.{State, online, discovery, configuration, reset}
 use Rattle.plan.specs.declared.grant.Grant.{Grant}
 use Rattle.plan.specs.declared.grant.Numbers.{Numbers}

@@ -3,10 +3,10 @@ use Rattle.std.specs.Prelude.{ℕ, zero, suc, ◌-◌, ◌*◌, Bool, true, fals
 use Rattle.std.specs.Option.{option_map}
 use Rattle.frame.specs.declared.faults.Fault.{Fault}
 use Rattle.frame.specs.declared.faults.Refusal.TheVariants as refusal
-use Rattle.frame.specs.declared.frames.BeaconHeader.{BeaconHeader}
-use Rattle.frame.specs.declared.frames.BeaconState.{BeaconState}
-use Rattle.frame.specs.declared.frames.BeaconState.TheVariants as states
-use Rattle.frame.specs.declared.frames.Configuration.{Configuration}
+use Rattle.frame.specs.declared.beacon.BeaconHeader.{BeaconHeader}
+use Rattle.frame.specs.declared.beacon.BeaconState.{BeaconState}
+use Rattle.frame.specs.declared.beacon.BeaconState.TheVariants as states
+use Rattle.frame.specs.declared.command.Configuration.{Configuration}
 use Rattle.frame.specs.Formats.{Told, reading}
 use Rattle.frame.specs.Messages.{Message, online_beacon, discovery_beacon, configuration_beacon, reset_beacon}
 use Rattle.frame.specs.Messages.{State, online, discovery, configuration, reset}

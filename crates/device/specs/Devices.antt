@@ -1,6 +1,6 @@
 -- What a device shows of itself.
 use Rattle.std.specs.Prelude.{ℕ, Bool, is_some, Option}
-use Rattle.frame.specs.declared.frames.Configuration.{Configuration}
+use Rattle.frame.specs.declared.command.Configuration.{Configuration}
 use Rattle.device.specs.declared.device.Device.{Device}
 use Rattle.device.specs.declared.phase.Phase.{Phase}
 

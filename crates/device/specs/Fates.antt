@@ -1,7 +1,7 @@
 -- The fates of cargo sent in its own timeslot.
 use Rattle.std.specs.Prelude.{◌≡◌, ℕ, Bool, true, false, cond, is_some, Some, None, Ok, Option, Result}
 use Rattle.frame.specs.declared.faults.Fault.{Fault}
-use Rattle.frame.specs.declared.frames.Configuration.{Configuration}
+use Rattle.frame.specs.declared.command.Configuration.{Configuration}
 use Rattle.repeats.specs.Bitmaps.{acknowledged}
 use Rattle.repeats.specs.Starts.{repeat_start}
 use Rattle.device.specs.declared.device.Device.{Device}

@@ -3,12 +3,12 @@ use Rattle.std.specs.Prelude.{ℕ, Bool, true, false, cond, not, ◌||◌, List,
 use Rattle.std.specs.Option.{option_map}
 use Rattle.frame.specs.declared.faults.Fault.{Fault}
 use Rattle.frame.specs.declared.faults.Refusal.TheVariants as refusal
-use Rattle.frame.specs.declared.frames.Acknowledged.{Acknowledged}
-use Rattle.frame.specs.declared.frames.Acknowledged.TheVariants as acknowledged
-use Rattle.frame.specs.declared.frames.Command.{Command}
-use Rattle.frame.specs.declared.frames.Command.TheVariants as commands
-use Rattle.frame.specs.declared.frames.Configuration.{Configuration}
-use Rattle.frame.specs.declared.frames.Wish.{Wish}
+use Rattle.frame.specs.declared.acknowledgment.Acknowledged.{Acknowledged}
+use Rattle.frame.specs.declared.acknowledgment.Acknowledged.TheVariants as acknowledged
+use Rattle.frame.specs.declared.command.Command.{Command}
+use Rattle.frame.specs.declared.command.Command.TheVariants as commands
+use Rattle.frame.specs.declared.command.Configuration.{Configuration}
+use Rattle.frame.specs.declared.command.Wish.{Wish}
 use Rattle.frame.specs.Formats.{Told, reading}
 use Rattle.frame.specs.Messages.{Message, data_frame, acknowledgment_frame, command_frame, octets_of}
 use Rattle.frame.specs.Refusals.{fault}

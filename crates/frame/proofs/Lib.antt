@@ -1,5 +1,5 @@
-pub mod Parts
-pub mod Numbers
-pub mod Returns
-pub mod Exact
-pub mod Start
+pub mod JoinedParts
+pub mod OctetNumbers
+pub mod WrittenReadsBack
+pub mod ReadWritesBack
+pub mod LongOctets

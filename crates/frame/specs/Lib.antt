@@ -1,9 +1,12 @@
 pub mod Refusals
-pub mod Widths
+pub mod ManagementWidths
 pub mod Octets
+pub mod Directions
+pub mod Fields
 pub mod Messages
-pub mod Codes
+pub mod KindsInCode
 pub mod Formats
+pub mod CommandParts
 pub mod Views
 pub mod Writing
-pub mod Laws
+pub mod FreeBits

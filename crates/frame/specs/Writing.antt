@@ -3,10 +3,11 @@ use Rattle.std.specs.Prelude.{◌≡◌, ℕ, cond, List, ◌++◌, length, take
 use Rattle.std.specs.Borrow.{Bor}
 use Rattle.frame.specs.declared.faults.Fault.{Fault}
 use Rattle.frame.specs.declared.faults.Refusal.TheVariants as refusal
-use Rattle.frame.specs.declared.frames.Command.{Command}
-use Rattle.frame.specs.declared.frames.Command.TheVariants as commands
+use Rattle.frame.specs.declared.command.Command.{Command}
+use Rattle.frame.specs.declared.command.Command.TheVariants as commands
 use Rattle.frame.specs.Formats.{Format, beacon, payload, acknowledgment, command, extent, parts, reading}
-use Rattle.frame.specs.Messages.{Message, online_beacon, discovery_beacon, configuration_beacon, reset_beacon, data_frame, acknowledgment_frame, command_frame}
+use Rattle.frame.specs.Messages.{Message, online_beacon, discovery_beacon, configuration_beacon, reset_beacon}
+use Rattle.frame.specs.Messages.{data_frame, acknowledgment_frame, command_frame}
 use Rattle.frame.specs.Messages.{online, discovery, configuration, reset, discover_response, configuration_status, configuration_request, octets_of}
 use Rattle.frame.specs.Refusals.{fault}
 

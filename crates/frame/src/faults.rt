@@ -5,68 +5,73 @@ ghost use Rattle.frame.specs.Refusals.{listed, fault, layer_name, fault_text};
 use std::error::Error;
 use std::fmt;
 
-// Each refusal by its name.
+/// What a call answers in place of a result. A refusal reads as its name, and its number is from 1 to 19.
 #[derive(Clone, Copy, Debug, PartialEq, Eq)]
 pub enum Refusal {
-    // A rule of slot plans is broken.
+    /// A rule of slot plans is broken.
     Plan = 1,
-    // The superframe is open already, or is not the one that is open.
+    /// The superframe is open already, or is not the one that is open.
     Superframe = 2,
-    // The call does not belong to the present mode or phase.
+    /// The call does not belong to the present mode or phase.
     Mode = 3,
-    // No timeslot has this number.
+    /// No timeslot has this number.
     Timeslot = 4,
-    // The timeslot is not above the last one accepted in this superframe.
+    /// The timeslot is not above the last one accepted in this superframe.
     Late = 5,
-    // The timeslot has no sender.
+    /// The timeslot has no sender.
     Nobody = 6,
-    // There is no octet.
+    /// There is no octet.
     Empty = 7,
-    // The frame type is not LLDN.
+    /// The frame type is not LLDN.
     Foreign = 8,
-    // A control bit that has to be zero is set.
+    /// A control bit that has to be zero is set.
     Reserved = 9,
-    // There are fewer octets than the frame has.
+    /// There are fewer octets than the frame has.
     Short = 10,
-    // A state, identifier, type or direction that is not listed, or a flag that has to be zero.
+    /// A state, identifier, type or direction that is not listed, or a flag that has to be zero.
     Kind = 11,
-    // There are more octets than the frame has.
+    /// There are more octets than the frame has.
     Surplus = 12,
-    // A sound frame that the call does not take now.
+    /// A sound frame that the call does not take now.
     Unwanted = 13,
-    // An address that is not in the plan, not the device's, or of another coordinator.
+    /// An address that is not in the plan, not the device's, or of another coordinator.
     Stranger = 14,
-    // A frame that contradicts the configuration or the rules of slot plans.
+    /// A frame that contradicts the configuration or the rules of slot plans.
     Misfit = 15,
-    // The payload is no image of this kind of cargo.
+    /// The payload is no image of this kind of cargo.
     Cargo = 16,
-    // The device's waiting place is taken.
+    /// The device's waiting place is taken.
     Waiting = 17,
-    // The image is larger than the grant carries.
+    /// The image is larger than the grant carries.
     Size = 18,
-    // The buffer is shorter than the frame.
+    /// The buffer is shorter than the frame.
     Space = 19,
 }
 
-// The part of the engine in which a refusal arises.
+/// The part of the engine in which a refusal arises. It reads as its name.
 #[derive(Clone, Copy, Debug, PartialEq, Eq)]
 pub enum Layer {
+    /// The rules of slot plans.
     Plan,
+    /// The formats of frames.
     Frame,
+    /// The images of cargo.
     Cargo,
+    /// The calls of a coordinator, a device or a writer.
     End,
 }
 
-// A refusal with its place, which is a grant's number, a timeslot or the index of an octet, as the refusal says, and its layer.
+/// A refusal with its place and its layer. It reads as `10 Short at 2 in frame`.
 #[derive(Clone, Copy, Debug, PartialEq, Eq)]
 pub struct Fault {
     pub refusal: Refusal,
+    /// A grant's number, a timeslot or the index of an octet, as the refusal says, or 0.
     pub place: usize,
     pub layer: Layer,
 }
 
 impl Refusal {
-    // The layer in which the refusal arises.
+    /// The layer in which the refusal arises.
     pub fn layer(self) -> Layer
         ensures { result ≡ (listed self).layer }
     {
@@ -83,7 +88,7 @@ impl Refusal {
         }
     }
 
-    // The fault that this refusal is at a place.
+    /// The fault that this refusal is at a place.
     pub fn at(self, place: usize) -> Fault
         ensures { result ≡ fault self place }
     {
@@ -94,7 +99,7 @@ impl Refusal {
         }
     }
 
-    // The refusal's name. A derived Debug would write the same, but promises no text.
+    /// The refusal's name, as `Short`.
     pub fn name(self) -> &'static str
         ensures { result.now ≡ (listed self).name }
     {
@@ -123,7 +128,7 @@ impl Refusal {
 }
 
 impl Layer {
-    // The layer's name, in small letters, as no derive writes it.
+    /// The layer's name, in small letters.
     pub fn name(self) -> &'static str
         ensures { result.now ≡ layer_name self }
     {
@@ -136,7 +141,7 @@ impl Layer {
     }
 }
 
-// The number under which a refusal is answered.
+/// The number under which a refusal is answered, from 1 to 19.
 impl From<Refusal> for u8 {
     ghost from_gives = { λ refusal number. number ≡ (listed refusal).number };
 
@@ -145,7 +150,6 @@ impl From<Refusal> for u8 {
     }
 }
 
-// A refusal reads as its name.
 impl fmt::Display for Refusal {
     ghost output = { λ x. Some (listed x).name };
 
@@ -154,7 +158,6 @@ impl fmt::Display for Refusal {
     }
 }
 
-// A layer reads as its name.
 impl fmt::Display for Layer {
     ghost output = { λ x. Some (layer_name x) };
 
@@ -163,7 +166,6 @@ impl fmt::Display for Layer {
     }
 }
 
-// A fault reads as `10 Short at 2 in frame`.
 impl fmt::Display for Fault {
     ghost output = { λ x. Some (fault_text x) };
 

@@ -1,21 +1,29 @@
-// Frames of the low latency mode (LLDN) of IEEE 802.15.4: read from received octets, and written into a lent buffer.
+//! Frames of the low latency mode (LLDN) of IEEE 802.15.4: read from received octets, and written into a lent buffer.
 #![tactic(auto)]
 
-mod codes;
+mod acknowledgment;
+mod beacon;
+mod buffer;
+mod command;
+mod control;
+mod data_frame;
+mod direction;
+mod extent;
 mod faults;
 mod frames;
-mod management;
-mod reading;
-mod writing;
+mod management_width;
+mod part;
 
+pub use acknowledgment::{Acknowledged, write_acknowledgment};
+pub use beacon::{
+    BeaconHeader, BeaconState, ManagementState, write_management_beacon, write_online_beacon,
+    write_reset_beacon,
+};
+pub use buffer::put;
+pub use command::{Command, Configuration, Wish, write_command};
+pub use data_frame::write_data;
+pub use direction::Direction;
 pub use faults::{Fault, Layer, Refusal};
-pub use frames::{
-    Acknowledged, BeaconHeader, BeaconState, Command, Configuration, Direction, Frame,
-    ManagementState, Part, Wish,
-};
-pub use management::{ManagementWidth, TooWide};
-pub use reading::read;
-pub use writing::{
-    put, write_acknowledgment, write_command, write_data, write_management_beacon,
-    write_online_beacon, write_reset_beacon,
-};
+pub use frames::{Frame, read};
+pub use management_width::{ManagementWidth, TooWide};
+pub use part::Part;

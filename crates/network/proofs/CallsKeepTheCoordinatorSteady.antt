@@ -8,10 +8,10 @@ use Rattle.std.proofs.lemmas.List.{take_at}
 use Rattle.std.proofs.lemmas.Bool.{and_parts, cond-false, leb-false, lt-ltb, not-false}
 use Rattle.frame.specs.declared.faults.Fault.{Fault}
 use Rattle.frame.specs.declared.faults.Refusal.TheVariants as refusal
-use Rattle.frame.specs.declared.frames.Acknowledged.{Acknowledged}
-use Rattle.frame.specs.declared.frames.Acknowledged.TheVariants as acknowledgments
-use Rattle.frame.specs.declared.frames.Command.{Command}
-use Rattle.frame.specs.declared.frames.Command.TheVariants as commands
+use Rattle.frame.specs.declared.acknowledgment.Acknowledged.{Acknowledged}
+use Rattle.frame.specs.declared.acknowledgment.Acknowledged.TheVariants as acknowledgments
+use Rattle.frame.specs.declared.command.Command.{Command}
+use Rattle.frame.specs.declared.command.Command.TheVariants as commands
 use Rattle.frame.specs.Formats.{Told, reading}
 use Rattle.frame.specs.Messages.{Message, online_beacon, discovery_beacon, configuration_beacon, reset_beacon}
 use Rattle.frame.specs.Messages.{data_frame, acknowledgment_frame, command_frame, octets_of}

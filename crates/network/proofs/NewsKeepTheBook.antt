@@ -6,11 +6,11 @@ use Rattle.std.specs.Option.{option_map}
 use Rattle.std.proofs.lemmas.List.{length-take}
 use Rattle.std.proofs.lemmas.Bool.{both_ways, eq-eqb, and_parts, not-true}
 use Rattle.frame.specs.declared.faults.Fault.{Fault}
-use Rattle.frame.specs.declared.frames.Configuration.{Configuration}
+use Rattle.frame.specs.declared.command.Configuration.{Configuration}
 use Rattle.frame.specs.Formats.{reading}
 use Rattle.frame.specs.Messages.{State, online, discovery, configuration, reset, octets_of}
-use Rattle.frame.proofs.Numbers.{low_bits}
-use Rattle.frame.proofs.Returns.{reads_back, told_of}
+use Rattle.frame.proofs.OctetNumbers.{low_bits}
+use Rattle.frame.proofs.WrittenReadsBack.{reads_back, told_of}
 use Rattle.plan.specs.declared.grant.Grant.{Grant}
 use Rattle.plan.specs.declared.grant.Numbers.{Numbers}
 use Rattle.plan.specs.Rules.{PlanMeaning, Rules, NumbersKeep, grant_at, bitmap_octets}

@@ -5,14 +5,14 @@ use Rattle.std.proofs.Common.{sym, refl, ap, ◌∙◌, subst, inl, inr, arith}
 use Rattle.std.proofs.lemmas.Bool.{both_ways, cond_both, eq-eqb, eqb-true, le-leb, lt-leb, or_parts, not-false}
 use Rattle.std.proofs.lemmas.List.{take_at}
 use Rattle.frame.specs.declared.faults.Fault.{Fault}
-use Rattle.frame.specs.declared.frames.Configuration.{Configuration}
-use Rattle.frame.specs.declared.frames.Wish.{Wish}
-use Rattle.frame.specs.declared.frames.Acknowledged.TheVariants as acknowledgments
-use Rattle.frame.specs.declared.frames.Command.TheVariants as commands
+use Rattle.frame.specs.declared.command.Configuration.{Configuration}
+use Rattle.frame.specs.declared.command.Wish.{Wish}
+use Rattle.frame.specs.declared.acknowledgment.Acknowledged.TheVariants as acknowledgments
+use Rattle.frame.specs.declared.command.Command.TheVariants as commands
 use Rattle.frame.specs.Formats.{Told, reading}
 use Rattle.frame.specs.Messages.{acknowledgment_frame, command_frame}
 use Rattle.frame.specs.Writing.{left_by}
-use Rattle.frame.proofs.Returns.{reads_back}
+use Rattle.frame.proofs.WrittenReadsBack.{reads_back}
 use Rattle.plan.specs.declared.grant.Grant.{Grant}
 use Rattle.plan.specs.declared.grant.Numbers.{Numbers}
 use Rattle.plan.specs.Rules.{PlanMeaning, Rules, grant_at}

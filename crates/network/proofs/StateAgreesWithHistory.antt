@@ -2,9 +2,9 @@
 -- coordinator.
 use Rattle.std.proofs.Common.{◌≡◌, ℕ, suc, ◌-◌, ◌≤◌, Bool, true, false, cond, not, ◌&&◌, ◌⊎◌, List, [], ◌∷◌, length}
 use Rattle.std.proofs.Common.{Some, None, Option}
-use Rattle.frame.specs.declared.frames.Acknowledged.TheVariants as acknowledged
-use Rattle.frame.specs.declared.frames.Command.TheVariants as commands
-use Rattle.frame.specs.declared.frames.Configuration.{Configuration}
+use Rattle.frame.specs.declared.acknowledgment.Acknowledged.TheVariants as acknowledged
+use Rattle.frame.specs.declared.command.Command.TheVariants as commands
+use Rattle.frame.specs.declared.command.Configuration.{Configuration}
 use Rattle.frame.specs.Messages.{data_frame, acknowledgment_frame, command_frame, octets_of}
 use Rattle.plan.specs.declared.grant.Grant.{Grant}
 use Rattle.plan.specs.declared.grant.Numbers.{Numbers}

@@ -3,7 +3,7 @@ use Rattle.std.specs.Prelude.{◌≡◌, ℕ, ◌+◌, ◌≤◌, true, false, L
 use Rattle.std.specs.Prelude.{negsuc, Some, None, Ok, Err}
 use Rattle.std.proofs.Common.{arith}
 use Rattle.frame.specs.declared.faults.Refusal.TheVariants as refusal
-use Rattle.frame.specs.declared.frames.Direction.TheVariants as directions
+use Rattle.frame.specs.declared.direction.Direction.TheVariants as directions
 use Rattle.frame.specs.Refusals.{fault}
 use Rattle.plan.specs.declared.grant.Numbers.{Numbers}
 use Rattle.plan.specs.Rules.{PlanMeaning, plan_of, Rules}

@@ -1,6 +1,6 @@
 -- Runs of a network: any calls in any arrangement that keeps the rules of the network.
 use Rattle.std.specs.Prelude.{◌≡◌, ℕ, ◌<◌, true, false, List, [], ◌∷◌, map, is_some, Some, None}
-use Rattle.frame.specs.declared.frames.Wish.{Wish}
+use Rattle.frame.specs.declared.command.Wish.{Wish}
 use Rattle.plan.specs.Rules.{PlanMeaning}
 use Rattle.coordinator.specs.Steps as coordinator
 use Rattle.device.specs.Steps as device

@@ -1,8 +1,8 @@
 -- Slot plans: what a plan means, and the rules that it keeps.
 use Rattle.std.specs.Prelude.{◌≡◌, ℕ, ◌+◌, ◌-◌, ◌*◌, ◌/◌, ◌^◌, ◌<◌, ◌≤◌, min, cond, ◌⊎◌, List, length, Some, None, Option, ◌==◌, nat_le}
 use Rattle.std.specs.List.{slice_get}
-use Rattle.frame.specs.declared.frames.Direction.{Direction}
-use Rattle.frame.specs.declared.frames.Direction.TheVariants as directions
+use Rattle.frame.specs.declared.direction.Direction.{Direction}
+use Rattle.frame.specs.declared.direction.Direction.TheVariants as directions
 use Rattle.plan.specs.declared.grant.Grant.{Grant}
 use Rattle.plan.specs.declared.grant.Numbers.{Numbers}
 

@@ -1,7 +1,7 @@
 -- Who repeats where, as both ends work it out from one bitmap.
 use Rattle.std.specs.Prelude.{ℕ, zero, suc, ◌+◌, Bool, true, false, cond, ◌&&◌, List, Some, None, Option, ◌==◌, nat_eq, nat_le}
-use Rattle.frame.specs.declared.frames.Direction.{Direction}
-use Rattle.frame.specs.declared.frames.Direction.TheVariants.{Uplink, Bidirectional}
+use Rattle.frame.specs.declared.direction.Direction.{Direction}
+use Rattle.frame.specs.declared.direction.Direction.TheVariants.{Uplink, Bidirectional}
 use Rattle.plan.specs.declared.grant.Grant.{Grant}
 use Rattle.plan.specs.declared.grant.Numbers.{Numbers}
 use Rattle.plan.specs.Rules.{PlanMeaning, direction_of}

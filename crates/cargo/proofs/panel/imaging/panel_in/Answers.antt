@@ -2,7 +2,7 @@ use Rattle.std.proofs.Common.{◌≡◌, ℕ, suc, ◌-◌, ◌^◌, ◌<◌, �
 use Rattle.std.proofs.lemmas.Bool.{ltb-true, ltb-false}
 use Rattle.std.proofs.lemmas.List.{take_all}
 use Rattle.frame.specs.Octets.{octet, value, little}
-use Rattle.frame.proofs.Exact.{little_value}
+use Rattle.frame.proofs.ReadWritesBack.{little_value}
 use Rattle.cargo.specs.InputsLemmas.{length_inputs_in}
 use Rattle.cargo.specs.Panels.{ImagesNone}
 use Rattle.cargo.specs.PanelsLemmas.{not_sized, not_unused, sized}

@@ -1,7 +1,7 @@
 use Rattle.std.proofs.Common.{◌≡◌, ℕ, List, [], ◌∷◌, ◌++◌, take, ap, ◌∙◌, append-nil}
 use Rattle.frame.specs.Octets.{little}
 use Rattle.frame.specs.Writing.{fitting, left_by}
-use Rattle.frame.proofs.Numbers.{little_eight}
+use Rattle.frame.proofs.OctetNumbers.{little_eight}
 use Rattle.cargo.specs.Panels.{inputs_of, image_of}
 use Rattle.cargo.specs.Packing.{laid_out}
 use Rattle.cargo.specs.PanelsLemmas.{image_parts}
