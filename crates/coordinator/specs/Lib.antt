@@ -1,3 +1,5 @@
-pub mod Beacons
+pub mod Coordinators
+pub mod Frames
+pub mod OpenSuperframes
+pub mod Replying
 pub mod Steps
-pub mod Stages

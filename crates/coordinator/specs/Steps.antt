@@ -1,5 +1,7 @@
 -- What each call of a coordinator answers, and the state and memory that it leaves.
-use Rattle.std.specs.Prelude.{◌≡◌, ℕ, ◌+◌, ◌-◌, ◌%◌, ◌^◌, Bool, true, false, cond, not, ◌&&◌, ◌||◌, List, [], length, replicate, is_ok, Some, None, Ok, Err, Option, Result, ◌==◌, nat_le, nat_lt, slice_index_or, slice_set}
+use Rattle.std.specs.Prelude.{◌≡◌, ℕ, ◌+◌, ◌-◌, ◌%◌, ◌^◌, ◌==◌, nat_le, nat_lt, List, [], length, replicate}
+use Rattle.std.specs.Prelude.{Bool, true, false, cond, not, ◌&&◌, ◌||◌, Some, None, Option, Ok, Err, Result, is_ok}
+use Rattle.std.specs.Prelude.{slice_index_or, slice_set}
 use Rattle.frame.specs.declared.faults.Fault.{Fault}
 use Rattle.frame.specs.declared.faults.Refusal.TheVariants as refusal
 use Rattle.frame.specs.declared.acknowledgment.Acknowledged.{Acknowledged}
@@ -7,7 +9,8 @@ use Rattle.frame.specs.declared.acknowledgment.Acknowledged.TheVariants as ackno
 use Rattle.frame.specs.declared.command.Command.{Command}
 use Rattle.frame.specs.declared.command.Command.TheVariants as commands
 use Rattle.frame.specs.Formats.{Told, reading}
-use Rattle.frame.specs.Messages.{Message, acknowledgment_frame, command_frame, octets_of, State, online, discovery, configuration}
+use Rattle.frame.specs.Messages.{Message, acknowledgment_frame, command_frame, octets_of}
+use Rattle.frame.specs.Messages.{State, online, discovery, configuration}
 use Rattle.frame.specs.Refusals.{fault}
 use Rattle.frame.specs.Writing.{fitting, left_by}
 use Rattle.plan.specs.declared.grant.Grant.{Grant}
@@ -18,14 +21,15 @@ use Rattle.repeats.specs.Bitmaps.{nothing_heard, marked_with}
 use Rattle.repeats.specs.BitAndRepeatTimeslots.{for_retransmission}
 use Rattle.repeats.specs.Starts.{sender_at}
 use Rattle.cargo.specs.Passing.{Receives}
-use Rattle.coordinator.specs.declared.state.Heard.{Heard}
-use Rattle.coordinator.specs.declared.state.Mode.{Mode}
-use Rattle.coordinator.specs.declared.state.Mode.TheVariants as mode
-use Rattle.coordinator.specs.declared.state.Opened.{Opened}
-use Rattle.coordinator.specs.declared.state.OpenSuperframe.{OpenSuperframe}
-use Rattle.coordinator.specs.declared.state.Record.{Record}
+use Rattle.coordinator.specs.declared.heard.Heard.{Heard}
+use Rattle.coordinator.specs.declared.mode.Mode.{Mode}
+use Rattle.coordinator.specs.declared.mode.Mode.TheVariants as mode
+use Rattle.coordinator.specs.declared.open_superframe.Opened.{Opened}
+use Rattle.coordinator.specs.declared.open_superframe.OpenSuperframe.{OpenSuperframe}
+use Rattle.coordinator.specs.declared.record.Record.{Record}
 use Rattle.coordinator.specs.declared.state.Inner.{Inner}
-use Rattle.coordinator.specs.Beacons.{state_of, beacon_in, configuration_for}
+use Rattle.coordinator.specs.Frames.{state_of, beacon_in, configuration_for}
+use Rattle.coordinator.specs.OpenSuperframes.{superframe_with}
 
 -- whether a state is Online
 abbrev pub is_online : State → Bool
@@ -81,7 +85,7 @@ abbrev pub opening : Numbers → Inner → List ℕ → Result ℕ Fault
 opening n s buffer = cond s.opened (Err (fault refusal.Superframe 0)) (fitting (beacon_of n s) buffer)
 
 abbrev pub opened_as : ℕ → Result ℕ Fault → Result Opened Fault
-opened_as k (Ok written) = Ok (record { length = written; superframe = record { number = k } })
+opened_as k (Ok written) = Ok (record { length = written; superframe = superframe_with k })
 opened_as k (Err f) = Err f
 
 abbrev pub open_answer : Numbers → Inner → List ℕ → Result Opened Fault
@@ -120,16 +124,22 @@ listening m s k t =
 
 -- received cargo of a grant, if its image is not larger than the grant carries
 abbrev pub heard_from : {C : Type 0} → (C → List ℕ) → Numbers → Grant → Result C Fault → Result (Heard C) Fault
-heard_from image n g (Ok c) = cond (nat_lt (carried n.size g) (length (image c))) (Err (fault refusal.Size 0)) (Ok (record { simple = g.simple; cargo = c }))
+heard_from image n g (Ok c) =
+    cond (nat_lt (carried n.size g) (length (image c)))
+    (Err (fault refusal.Size 0))
+    (Ok (record { simple = g.simple; cargo = c }))
 heard_from image n g (Err f) = Err f
 
 -- the answer where a grant is listened to, or nobody
-abbrev pub HearsFrom : {C : Type 0} → (C → List ℕ) → Numbers → Result Grant Fault → List ℕ → Result (Heard C) Fault → Type 0
-HearsFrom {C = C} image n (Ok g) xs r = (received : Result C Fault) × Receives image xs received × (r ≡ heard_from image n g received)
+abbrev pub HearsFrom :
+    {C : Type 0} → (C → List ℕ) → Numbers → Result Grant Fault → List ℕ → Result (Heard C) Fault → Type 0
+HearsFrom {C = C} image n (Ok g) xs r =
+    (received : Result C Fault) × Receives image xs received × (r ≡ heard_from image n g received)
 HearsFrom image n (Err f) xs r = r ≡ Err f
 
 -- the answer, which the octets determine through what is received of them
-abbrev pub Hears : {C : Type 0} → (C → List ℕ) → PlanMeaning → Inner → ℕ → ℕ → List ℕ → Result (Heard C) Fault → Type 0
+abbrev pub Hears :
+    {C : Type 0} → (C → List ℕ) → PlanMeaning → Inner → ℕ → ℕ → List ℕ → Result (Heard C) Fault → Type 0
 Hears image m s k t xs r = HearsFrom image m.numbers (listening m s k t) xs r
 
 -- the bitmap after a grant's frame in timeslot t: a repeat sets no bit
@@ -211,7 +221,8 @@ acknowledging s configuring a = unwanted
 -- a command, in Configuration or else in Discovery
 abbrev pub commanded : PlanMeaning → Inner → Bool → Command → Result Managed Fault
 commanded m s configuring (commands.DiscoverResponse a w) = cond configuring unwanted (discovered s (number_with m a))
-commanded m s configuring (commands.ConfigurationStatus a simple w first width) = cond configuring (requested m s a (number_with m a)) unwanted
+commanded m s configuring (commands.ConfigurationStatus a simple w first width) =
+    cond configuring (requested m s a (number_with m a)) unwanted
 commanded m s configuring c = unwanted
 
 abbrev pub managed_by : PlanMeaning → Inner → Bool → Message → Result Managed Fault
@@ -262,11 +273,17 @@ manage_state m s k xs buffer = reply_state s (managing m s k xs) buffer
 
 -- a refused close hands the superframe back
 abbrev pub close_answer : Inner → ℕ → Result (Unit {0}) (Fault × OpenSuperframe)
-close_answer s k = cond (is_open s k) (Ok tt) (Err (fault refusal.Superframe 0, record { number = k }))
+close_answer s k = cond (is_open s k) (Ok tt) (Err (fault refusal.Superframe 0, superframe_with k))
 
 -- the gathered bitmap becomes the one that is sent, and the superframe number goes up by one, from 4294967295 to 0
 abbrev pub ended : Inner → Inner
-ended s = record s { opened = false; number = (s.number + 1) % 2 ^ 32; last = 0; gathered = nothing_heard; sent = s.gathered }
+ended s = record s {
+  opened = false;
+  number = (s.number + 1) % 2 ^ 32;
+  last = 0;
+  gathered = nothing_heard;
+  sent = s.gathered;
+}
 
 abbrev pub close_state : Inner → ℕ → Inner
 close_state s k = cond (is_open s k) (ended s) s

@@ -3,12 +3,16 @@
 
 mod beacons;
 mod coordinator;
-mod hearing;
-mod keeping;
-mod managing;
+mod heard;
+mod listening;
+mod management;
+mod mode;
+mod open_superframe;
+mod record;
 mod state;
-#[cfg(test)]
-mod tests;
 
 pub use coordinator::Coordinator;
-pub use state::{Heard, Mode, OpenSuperframe, Opened, Record};
+pub use heard::Heard;
+pub use mode::Mode;
+pub use open_superframe::{OpenSuperframe, Opened};
+pub use record::Record;

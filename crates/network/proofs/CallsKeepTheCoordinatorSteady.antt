@@ -31,12 +31,12 @@ use Rattle.repeats.proofs.EachGrantsBitsAreAlike.{always_alike, stays_alike}
 use Rattle.repeats.proofs.BitsAndRepeatsLieApart.{own_has_bit}
 use Rattle.repeats.proofs.MarkingSetsTheGrantsBits.{length-with_timeslots, marks}
 use Rattle.cargo.specs.Passing.{Receives}
-use Rattle.coordinator.specs.declared.state.Heard.{Heard}
+use Rattle.coordinator.specs.declared.heard.Heard.{Heard}
 use Rattle.coordinator.specs.declared.state.Inner.{Inner}
-use Rattle.coordinator.specs.declared.state.Mode.{Mode}
-use Rattle.coordinator.specs.declared.state.Opened.{Opened}
-use Rattle.coordinator.specs.declared.state.OpenSuperframe.{OpenSuperframe}
-use Rattle.coordinator.specs.Beacons.{state_of, configuration_for}
+use Rattle.coordinator.specs.declared.mode.Mode.{Mode}
+use Rattle.coordinator.specs.declared.open_superframe.Opened.{Opened}
+use Rattle.coordinator.specs.declared.open_superframe.OpenSuperframe.{OpenSuperframe}
+use Rattle.coordinator.specs.Frames.{state_of, configuration_for}
 use Rattle.coordinator.specs.Steps as coordinator
 use Rattle.coordinator.specs.Steps.{is_online, is_managing, is_configuring, is_open, in_mode, mode_state, beacon_of}
 use Rattle.coordinator.specs.Steps.{opened_as, open_answer, open_memory, begun, open_state, somebody, sending}

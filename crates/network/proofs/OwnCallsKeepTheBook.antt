@@ -21,7 +21,7 @@ use Rattle.repeats.specs.BitAndRepeatTimeslots.{for_retransmission}
 use Rattle.repeats.specs.Starts.{repeat_start}
 use Rattle.network.proofs.FramesAreOwnOrRepeats.{own_is_no_repeat, repeats_are_for_retransmission}
 use Rattle.coordinator.specs.declared.state.Inner.{Inner}
-use Rattle.coordinator.specs.Beacons.{configuration_for}
+use Rattle.coordinator.specs.Frames.{configuration_for}
 use Rattle.coordinator.specs.Steps.{beacon_of}
 use Rattle.device.specs.declared.device.Device.{Device}
 use Rattle.device.specs.declared.news.News.{News}

@@ -14,7 +14,7 @@ use Rattle.repeats.specs.BitAndRepeatTimeslots.{for_retransmission}
 use Rattle.repeats.specs.Starts.{repeat_start}
 use Rattle.repeats.specs.Laws.{BitsAlike}
 use Rattle.coordinator.specs.declared.state.Inner.{Inner}
-use Rattle.coordinator.specs.Beacons.{configuration_for}
+use Rattle.coordinator.specs.Frames.{configuration_for}
 use Rattle.coordinator.specs.Steps.{beacon_of}
 use Rattle.device.specs.declared.device.Device.{Device}
 use Rattle.device.specs.declared.fate.Fate.TheVariants as fate

@@ -1,5 +1,5 @@
 use Rattle.std.proofs.Common.{rules, refl}
-use Rattle.coordinator.proofs.managing.note.Goals as goal
+use Rattle.coordinator.proofs.record.note.Goals as goal
 
 pub returns-then-place-records : goal.returns-then-place-records
 returns-then-place-records g c = λ r by.

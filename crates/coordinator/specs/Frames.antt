@@ -1,13 +1,14 @@
--- The modes of a coordinator, and the frames that it writes.
+-- The frames that a coordinator writes.
 use Rattle.std.specs.Prelude.{ℕ, List, take}
 use Rattle.frame.specs.declared.beacon.BeaconHeader.{BeaconHeader}
 use Rattle.frame.specs.declared.command.Configuration.{Configuration}
-use Rattle.frame.specs.Messages.{Message, online_beacon, discovery_beacon, configuration_beacon, reset_beacon, State, online, discovery, configuration, reset}
+use Rattle.frame.specs.Messages.{Message, online_beacon, discovery_beacon, configuration_beacon, reset_beacon}
+use Rattle.frame.specs.Messages.{State, online, discovery, configuration, reset}
 use Rattle.plan.specs.declared.grant.Grant.{Grant}
 use Rattle.plan.specs.declared.grant.Numbers.{Numbers}
 use Rattle.plan.specs.Rules.{bitmap_octets}
-use Rattle.coordinator.specs.declared.state.Mode.{Mode}
-use Rattle.coordinator.specs.declared.state.Mode.TheVariants as mode
+use Rattle.coordinator.specs.declared.mode.Mode.{Mode}
+use Rattle.coordinator.specs.declared.mode.Mode.TheVariants as mode
 
 -- the state that beacons announce in a mode; `state_code` gives its number
 abbrev pub state_of : Mode → State
@@ -16,6 +17,7 @@ state_of mode.Configuration = configuration
 state_of mode.Online = online
 state_of mode.Reset = reset
 
+-- what every beacon of a plan carries
 abbrev pub header_of : Numbers → BeaconHeader
 header_of n = record { coordinator = n.coordinator; sequence = n.sequence; size = n.size }
 

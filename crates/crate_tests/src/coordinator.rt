@@ -1,6 +1,6 @@
 // How much memory a coordinator takes, and a known case with two coordinators.
-use super::*;
 use cargo::Reading;
+use coordinator::{Coordinator, Heard, Mode, OpenSuperframe, Opened};
 use frame::{Fault, Layer, Refusal};
 use plan::{EvenGrants, EvenPlan, ListedPlan, Numbers};
 use std::mem::size_of;
