@@ -1,6 +1,6 @@
 // Networks in the low latency mode (LLDN) of IEEE 802.15.4: a coordinator, its devices, and what holds of every run of them.
 #![tactic(auto)]
 
-mod making;
+mod guaranteed_coordinator;
 
-pub use making::coordinator_for;
+pub use guaranteed_coordinator::coordinator_for;

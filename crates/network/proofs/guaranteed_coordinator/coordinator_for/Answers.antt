@@ -1,4 +1,4 @@
-use Rattle.network.proofs.making.coordinator_for.Goals as goal
+use Rattle.network.proofs.guaranteed_coordinator.coordinator_for.Goals as goal
 use Rattle.network.proofs.TheExampleIsARun.{example}
 use Rattle.network.proofs.EveryRunIsGuaranteed.{guarantee}
 

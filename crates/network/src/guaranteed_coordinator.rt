@@ -1,0 +1,23 @@
+// The coordinator of a network, and what holds of every run of it.
+ghost use Rattle.std.specs.Prelude.{◌≡◌};
+ghost use Rattle.coordinator.specs.Coordinators.{plan_in, state_in};
+ghost use Rattle.coordinator.specs.Steps.{made};
+ghost use Rattle.network.specs.Example.{Example};
+ghost use Rattle.network.specs.Guarantee.{Guarantee};
+
+use cargo::Cargo;
+use coordinator::Coordinator;
+use plan::SlotPlan;
+
+/// The coordinator of a network over any slot plan and any kind of cargo, in Discovery, before its first superframe. Nothing is refused.
+///
+/// `guarantee` is what holds of every run of such a network, with any number of devices of different full addresses and any losses.
+/// `example` is a run that meets its premises.
+pub fn coordinator_for<P: SlotPlan, C: Cargo>(plan: P) -> Coordinator<P>
+    ensures state { state_in result ≡ made }
+    ensures plan { plan_in result ≡ plan }
+    ensures guarantee { Guarantee C.image (P.meaning plan) }
+    ensures example { Example }
+{
+    Coordinator::new(plan)
+}
