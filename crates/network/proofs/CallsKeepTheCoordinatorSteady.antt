@@ -50,6 +50,7 @@ use Rattle.network.specs.Calls.{is_offered, sends, writes_management, takes_mana
 use Rattle.network.specs.Deeds.{Deed, opening, closing, hand_up, reply, news, acceptance, transmission, taking}
 use Rattle.network.specs.Deeds.{nothing, sent_deed, deed}
 use Rattle.network.specs.History.{Sending, superframes, announced, replies, sendings}
+use Rattle.network.proofs.CallsAtADevice.{OfADevice}
 use Rattle.network.proofs.StateAgreesWithHistory.{Steady, ReplyOf}
 
 -- Marking.
@@ -200,14 +201,13 @@ module _ {C : Type 0} (m : PlanMeaning) (k : Inner) (ds : List (Deed C)) where
   pub idle_steady : Steady m k ds → Steady m k (nothing ∷ ds)
   idle_steady s = still_steady (nothing ∷ ds) refl refl refl refl s
 
-  pub news_steady : (d : ℕ) (b : Option (List ℕ)) (φ : Option Fate) → Steady m k ds → Steady m k (news d b φ ∷ ds)
-  news_steady d b φ s = still_steady (news d b φ ∷ ds) refl refl refl refl s
-
-  pub acceptance_steady : (d : ℕ) (x : C) → Steady m k ds → Steady m k (acceptance d x ∷ ds)
-  acceptance_steady d x s = still_steady (acceptance d x ∷ ds) refl refl refl refl s
-
-  pub transmission_steady : (d t : ℕ) (xs : List ℕ) → Steady m k ds → Steady m k (transmission d t xs ∷ ds)
-  transmission_steady d t xs s = record {
+  -- the deeds of devices
+  pub device_steady : (x : Deed C) → OfADevice x → Steady m k ds → Steady m k (x ∷ ds)
+  device_steady (opening xs) of s = absurd of
+  device_steady closing of s = absurd of
+  device_steady (hand_up t xs simple x) of s = absurd of
+  device_steady (reply xs) of s = absurd of
+  device_steady (transmission d t xs) of s = record {
     size = s.size;
     gathered_alike = s.gathered_alike;
     sent_alike = s.sent_alike;
@@ -220,41 +220,7 @@ module _ {C : Type 0} (m : PlanMeaning) (k : Inner) (ds : List (Deed C)) where
       | inr there ↦ s.earlier x there
     ];
   }
-
-  pub taking_steady : (d : ℕ) (xs : List ℕ) → Steady m k ds → Steady m k (taking d xs ∷ ds)
-  taking_steady d xs s = still_steady (taking d xs ∷ ds) refl refl refl refl s
-
-  -- the calls of a device
-  pub beacon_steady : (d : ℕ) (xs : List ℕ) (r : Result (Option Fate) Fault) → Steady m k ds
-      → Steady m k (deed (takes_beacon d xs r) ∷ ds)
-  beacon_steady d xs (Ok φ) s = news_steady d (Some xs) φ s
-  beacon_steady d xs (Err f) s = idle_steady s
-
-  pub missed_steady : (d : ℕ) (r : Option Fate) → Steady m k ds → Steady m k (deed (misses_beacon d r) ∷ ds)
-  missed_steady d r s = news_steady d None r s
-
-  pub offered_steady : (d : ℕ) (x : C) (r : Result (Unit {0}) Fault) → Steady m k ds
-      → Steady m k (deed (is_offered d x r) ∷ ds)
-  offered_steady d x (Ok u) s = acceptance_steady d x s
-  offered_steady d x (Err f) s = idle_steady s
-
-  sent_so : (d t n : ℕ) (memory : List ℕ) → Steady m k ds → Steady m k (sent_deed d t n memory ∷ ds)
-  sent_so d t zero memory s = idle_steady s
-  sent_so d t (suc n) memory s = transmission_steady d t (take (suc n) memory) s
-
-  pub sent_steady : (d t : ℕ) (buffer : List ℕ) (r : Result ℕ Fault) (memory : List ℕ) → Steady m k ds
-      → Steady m k (deed (sends d t buffer r memory) ∷ ds)
-  sent_steady d t buffer (Ok n) memory s = sent_so d t n memory s
-  sent_steady d t buffer (Err f) memory s = idle_steady s
-
-  pub written_steady : (d : ℕ) (buffer : List ℕ) (r : Result ℕ Fault) (memory : List ℕ) → Steady m k ds
-      → Steady m k (deed (writes_management d buffer r memory) ∷ ds)
-  written_steady d buffer r memory s = idle_steady s
-
-  pub took_steady : (d : ℕ) (xs : List ℕ) (r : Result (Unit {0}) Fault) → Steady m k ds
-      → Steady m k (deed (takes_management d xs r) ∷ ds)
-  took_steady d xs (Ok u) s = taking_steady d xs s
-  took_steady d xs (Err f) s = idle_steady s
+  device_steady x of s = still_steady (x ∷ ds) refl refl refl refl s
 
 long : length nothing_heard ≡ 32
 long = length-replicate {A = ℕ} 32 0

@@ -35,11 +35,6 @@ module _ {C : Type 0} where
 
 module _ {C : Type 0} (image : C → List ℕ) (m : PlanMeaning) where
   kept : (e : ℕ) (v : Device C) (c : Call C) → (device_after image m e v c).address ≡ v.address
-  kept e v (set_mode mode r) = refl
-  kept e v (opens buffer r memory) = refl
-  kept e v (hears k t xs r) = refl
-  kept e v (hears_management k xs buffer r memory) = refl
-  kept e v (closes k r) = refl
   kept e v (takes_beacon d xs r) =
       either (eqb d e) (device.beacon_state v xs) v (by_beacon v (beacon_taken v.configuration xs))
   kept e v (misses_beacon d r) = either (eqb d e) (device.missed_state v) v refl
@@ -55,6 +50,7 @@ module _ {C : Type 0} (image : C → List ℕ) (m : PlanMeaning) where
       (cond (device.is_missed v.news) v (device.in_phase v (thanked v.phase))) v
       (either' (device.is_missed v.news) v (device.in_phase v (thanked v.phase)) refl))
   kept e v (takes_management d xs r) = either (eqb d e) (device.take_state v xs) v (by_taking v (device.taking v xs))
+  kept e v c = refl
 
   pub address_of : (devices : Devices) (cs : List (Call C)) (e : ℕ)
       → ((hall image m devices cs).devices e).address ≡ devices.address e

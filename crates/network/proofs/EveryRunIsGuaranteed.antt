@@ -20,6 +20,7 @@ use Rattle.device.specs.declared.fate.Fate.{Fate}
 use Rattle.device.specs.Steps as device
 use Rattle.network.specs.Calls.{Call, set_mode, opens, hears, hears_management, closes, takes_beacon, misses_beacon}
 use Rattle.network.specs.Calls.{is_offered, sends, writes_management, takes_management, device_after, Answers}
+use Rattle.network.specs.Calls.{stepped, device_of, is_at}
 use Rattle.network.specs.Deeds.{Deed, opening, closing, hand_up, reply, news, acceptance, transmission, taking}
 use Rattle.network.specs.Deeds.{nothing, deed}
 use Rattle.network.specs.History.{Among, Sending, superframes, announced, sendings, senders}
@@ -28,6 +29,7 @@ use Rattle.network.specs.Guarantee.{Guarantee}
 use Rattle.network.specs.Runs.{Devices, Different, Present, OnAir, KeepsRules, deeds, hall, Run}
 use Rattle.network.proofs.TheBookGivesTheGuarantee.{Carried, from_book, from_outside}
 use Rattle.network.proofs.DevicesKeepTheirAddress.{address_of}
+use Rattle.network.proofs.CallsAtADevice.{of_a_device, of_another}
 use Rattle.network.proofs.DeviceBook.{count}
 use Rattle.network.proofs.FramesCarryTheirAcceptance.{Carries, begun_carries, next_carries}
 use Rattle.network.proofs.ArrivalsAreOfFrames.{Credits, Grounds, begun_credits, next_credits}
@@ -260,33 +262,24 @@ module _ {C : Type 0} (image : C → List ℕ) (short : (x : C) → length (imag
     abbrev StandingAfter : Call C → ℕ → Type 0
     StandingAfter c e = Standing image m.numbers e (grant_for e) k (device_after image m e (v e) c) (deed c ∷ ds)
 
-    opens_facts : (buffer : List ℕ) (r : Result Opened Fault) (memory : List ℕ)
-        → Facts m devices (deed (opens buffer r memory) ∷ ds)
-    opens_facts buffer (Ok o) memory = same_facts m devices ds (opening (take o.length memory) ∷ ds) refl refl h.facts
-    opens_facts buffer (Err f) memory = same_facts m devices ds (nothing ∷ ds) refl refl h.facts
+    -- calls other than hearing and sending data leave what holds of frames and hand-ups
+    abbrev IsCalm : Call C → Type 0
+    IsCalm (hears j t xs r) = ⊥
+    IsCalm (sends d t buffer r memory) = ⊥
+    IsCalm c = Unit {0}
 
-    managed_facts : (j : ℕ) (xs buffer : List ℕ) (r : Result ℕ Fault) (memory : List ℕ)
-        → Facts m devices (deed (hears_management j xs buffer r memory) ∷ ds)
-    managed_facts j xs buffer (Ok l) memory = same_facts m devices ds (reply (take l memory) ∷ ds) refl refl h.facts
-    managed_facts j xs buffer (Err f) memory = same_facts m devices ds (nothing ∷ ds) refl refl h.facts
-
-    closes_facts : (j : ℕ) (r : Result (Unit {0}) (Fault × OpenSuperframe)) → Facts m devices (deed (closes j r) ∷ ds)
-    closes_facts j (Ok u) = same_facts m devices ds (closing ∷ ds) refl refl h.facts
-    closes_facts j (Err f) = same_facts m devices ds (nothing ∷ ds) refl refl h.facts
-
-    beacon_facts : (d : ℕ) (xs : List ℕ) (r : Result (Option Fate) Fault)
-        → Facts m devices (deed (takes_beacon d xs r) ∷ ds)
-    beacon_facts d xs (Ok φ) = same_facts m devices ds (news d (Some xs) φ ∷ ds) refl refl h.facts
-    beacon_facts d xs (Err f) = same_facts m devices ds (nothing ∷ ds) refl refl h.facts
-
-    offered_facts : (d : ℕ) (x : C) (r : Result (Unit {0}) Fault) → Facts m devices (deed (is_offered d x r) ∷ ds)
-    offered_facts d x (Ok u) = same_facts m devices ds (acceptance d x ∷ ds) refl refl h.facts
-    offered_facts d x (Err f) = same_facts m devices ds (nothing ∷ ds) refl refl h.facts
-
-    took_facts : (d : ℕ) (xs : List ℕ) (r : Result (Unit {0}) Fault)
-        → Facts m devices (deed (takes_management d xs r) ∷ ds)
-    took_facts d xs (Ok u) = same_facts m devices ds (taking d xs ∷ ds) refl refl h.facts
-    took_facts d xs (Err f) = same_facts m devices ds (nothing ∷ ds) refl refl h.facts
+    calm_facts : (c : Call C) → IsCalm c → Facts m devices (deed c ∷ ds)
+    calm_facts (hears j t xs r) calm = absurd calm
+    calm_facts (sends d t buffer r memory) calm = absurd calm
+    calm_facts (opens buffer (Ok o) memory) calm =
+        same_facts m devices ds (opening (take o.length memory) ∷ ds) refl refl h.facts
+    calm_facts (hears_management j xs buffer (Ok l) memory) calm =
+        same_facts m devices ds (reply (take l memory) ∷ ds) refl refl h.facts
+    calm_facts (closes j (Ok u)) calm = same_facts m devices ds (closing ∷ ds) refl refl h.facts
+    calm_facts (takes_beacon d xs (Ok φ)) calm = same_facts m devices ds (news d (Some xs) φ ∷ ds) refl refl h.facts
+    calm_facts (is_offered d x (Ok u)) calm = same_facts m devices ds (acceptance d x ∷ ds) refl refl h.facts
+    calm_facts (takes_management d xs (Ok u)) calm = same_facts m devices ds (taking d xs ∷ ds) refl refl h.facts
+    calm_facts c calm = same_facts m devices ds (deed c ∷ ds) refl refl h.facts
 
     sent_facts : (d : ℕ) → d < devices.count → (t : ℕ) (buffer : List ℕ) (r : Result ℕ Fault) (memory : List ℕ)
         → KeepsRules devices.count ds (deed (sends d t buffer r memory))
@@ -302,74 +295,25 @@ module _ {C : Type 0} (image : C → List ℕ) (short : (x : C) → length (imag
     sent_facts d there t buffer (Err f) memory keeps standing =
         same_facts m devices ds (nothing ∷ ds) refl refl h.facts
 
-    beacon_standing : (d : ℕ) → d < devices.count → (xs : List ℕ) (r : Result (Option Fate) Fault)
-        → r ≡ device.beacon_answer (v d) xs → KeepsRules devices.count ds (deed (takes_beacon d xs r)) → (e : ℕ)
-        → e < devices.count → StandingAfter (takes_beacon d xs r) e
-    beacon_standing d there xs r is keeps =
-        spread d (StandingAfter (takes_beacon d xs r))
-        (rw (eq-eqb d d refl)
-        (own_beacon k ds h.steady d (devices.address d) (v d) (address_of image m devices cs d)
-        (grant_for d) refl xs r is keeps (h.standing d there)))
+    -- a call at device d keeps how every device stands, where it keeps that of its own
+    call_standing : (c : Call C) (d : ℕ) → device_of c ≡ Some d
+        → Standing image m.numbers d (grant_for d) k (stepped image m (v d) c) (deed c ∷ ds)
+        → (e : ℕ) → e < devices.count → StandingAfter c e
+    call_standing c d at own =
+        spread d (StandingAfter c) (rw (ap (is_at d) at ∙ eq-eqb d d refl) own)
         (λ e here differ.
-        rw differ (others.beacon_elsewhere image m e (grant_for e) k (v e) ds d differ xs r (h.standing e here)))
-
-    missed_standing : (d : ℕ) → d < devices.count → (r : Option Fate) → r ≡ device.missed_answer (v d)
-        → KeepsRules devices.count ds (deed (misses_beacon d r)) → (e : ℕ) → e < devices.count
-        → StandingAfter (misses_beacon d r) e
-    missed_standing d there r is keeps =
-        spread d (StandingAfter (misses_beacon d r))
-        (rw (eq-eqb d d refl)
-        (own_missed k ds h.steady d (devices.address d) (v d) (address_of image m devices cs d)
-        (grant_for d) refl r is keeps (h.standing d there)))
-        (λ e here differ.
-        rw differ (others.missed_elsewhere image m e (grant_for e) k (v e) ds d differ r (h.standing e here)))
-
-    offered_standing : (d : ℕ) → d < devices.count → (x : C) (r : Result (Unit {0}) Fault)
-        → r ≡ device.offer_answer image (v d) x → (e : ℕ) → e < devices.count → StandingAfter (is_offered d x r) e
-    offered_standing d there x r is =
-        spread d (StandingAfter (is_offered d x r))
-        (rw (eq-eqb d d refl)
-        (own_offered k ds h.steady d (devices.address d) (v d) (address_of image m devices cs d)
-        (grant_for d) refl x r is (h.standing d there)))
-        (λ e here differ.
-        rw differ (others.offered_elsewhere image m e (grant_for e) k (v e) ds d differ x r (h.standing e here)))
-
-    sent_standing : (d : ℕ) → d < devices.count → (t : ℕ) (buffer : List ℕ) (r : Result ℕ Fault) (memory : List ℕ)
-        → r ≡ device.send_answer image (v d) t buffer → memory ≡ device.send_memory image (v d) t buffer
-        → KeepsRules devices.count ds (deed (sends d t buffer r memory)) → (e : ℕ) → e < devices.count
-        → StandingAfter (sends d t buffer r memory) e
-    sent_standing d there t buffer r memory is left keeps =
-        spread d (StandingAfter (sends d t buffer r memory))
-        (rw (eq-eqb d d refl)
-        (own_sent k ds h.steady d (devices.address d) (v d) (address_of image m devices cs d)
-        (grant_for d) refl t buffer r memory is left keeps (h.standing d there)))
-        (λ e here differ.
-        rw differ
-        (others.sent_elsewhere image m e (grant_for e) k (v e) ds d differ t buffer r memory (h.standing e here)))
-
-    written_standing : (d : ℕ) → d < devices.count → (buffer : List ℕ) (r : Result ℕ Fault) (memory : List ℕ)
-        → r ≡ device.write_answer (v d) buffer → (e : ℕ) → e < devices.count
-        → StandingAfter (writes_management d buffer r memory) e
-    written_standing d there buffer r memory is =
-        spread d (StandingAfter (writes_management d buffer r memory))
-        (rw (eq-eqb d d refl)
-        (own_written k ds h.steady d (devices.address d) (v d) (address_of image m devices cs d)
-        (grant_for d) refl buffer r memory is (h.standing d there)))
-        (λ e here differ.
-        rw differ
-        (others.written_elsewhere image m e (grant_for e) k (v e) ds d differ buffer r memory
+        let off : is_at e (device_of c) ≡ false = ap (is_at e) at ∙ differ in
+        let some : is_some (device_of c) ≡ true = ap is_some at in
+        rw off (others.elsewhere image m e (grant_for e) k (v e) ds (deed c) (of_a_device c some) (of_another e c some off)
         (h.standing e here)))
 
-    took_standing : (d : ℕ) → d < devices.count → (xs : List ℕ) (r : Result (Unit {0}) Fault)
-        → r ≡ device.take_answer (v d) xs → KeepsRules devices.count ds (deed (takes_management d xs r)) → (e : ℕ)
-        → e < devices.count → StandingAfter (takes_management d xs r) e
-    took_standing d there xs r is keeps =
-        spread d (StandingAfter (takes_management d xs r))
-        (rw (eq-eqb d d refl)
-        (own_took k ds h.steady d (devices.address d) (v d) (address_of image m devices cs d)
-        (grant_for d) refl xs r is keeps (h.standing d there)))
-        (λ e here differ.
-        rw differ (others.took_elsewhere image m e (grant_for e) k (v e) ds d differ xs r (h.standing e here)))
+    -- and what holds of the coordinator
+    call_steady : (c : Call C) (d : ℕ) → device_of c ≡ Some d → Steady m k (deed c ∷ ds)
+    call_steady c d at = steadily.device_steady m k ds (deed c) (of_a_device c (ap is_some at)) h.steady
+
+    -- a device has the full address that it was made with
+    addressed : (d : ℕ) → (v d).address ≡ devices.address d
+    addressed d = address_of image m devices cs d
 
     hears_kept : (j t : ℕ) (xs : List ℕ) (r : Result (Heard C) Fault) → coordinator.Hears image m k j t xs r
         → KeepsRules devices.count ds (deed (hears j t xs r)) → Holding (hears j t xs r ∷ cs)
@@ -435,58 +379,70 @@ module _ {C : Type 0} (image : C → List ℕ) (short : (x : C) → length (imag
     next (set_mode mode r) is there keeps = record {
       steady = steadily.mode_steady m k ds mode r h.steady;
       standing = λ e here. others.mode_kept image m e (grant_for e) k (v e) ds mode r (h.standing e here);
-      facts = same_facts m devices ds (nothing ∷ ds) refl refl h.facts;
+      facts = calm_facts (set_mode mode r) tt;
     }
     next (opens buffer r memory) is there keeps = record {
       steady = steadily.open_steady m k ds buffer r memory is.0 is.1 h.steady;
       standing = λ e here. others.opened_kept image m e (grant_for e) k (v e) ds buffer r memory is.0 h.steady
           (h.standing e here);
-      facts = opens_facts buffer r memory;
+      facts = calm_facts (opens buffer r memory) tt;
     }
     next (hears j t xs r) is there keeps = hears_kept j t xs r is keeps
     next (hears_management j xs buffer r memory) is there keeps = record {
       steady = steadily.manage_steady m rules k ds j xs buffer r memory is.0 is.1 h.steady;
       standing = λ e here. others.managed_kept image m e (grant_for e) k (v e) ds j xs buffer r memory
           (h.standing e here);
-      facts = managed_facts j xs buffer r memory;
+      facts = calm_facts (hears_management j xs buffer r memory) tt;
     }
     next (closes j r) is there keeps = record {
       steady = steadily.close_steady m k ds j r is h.steady;
       standing = λ e here. others.closed_kept image m e (grant_for e) k (v e) ds j r is
           (λ q. subst (λ (x : Deed C). KeepsRules devices.count ds x) q keeps e here) (h.standing e here);
-      facts = closes_facts j r;
+      facts = calm_facts (closes j r) tt;
     }
     next (takes_beacon d xs r) is there keeps = record {
-      steady = steadily.beacon_steady m k ds d xs r h.steady;
-      standing = beacon_standing d there xs r is keeps;
-      facts = beacon_facts d xs r;
+      steady = call_steady (takes_beacon d xs r) d refl;
+      standing = call_standing (takes_beacon d xs r) d refl
+          (own_beacon k ds h.steady d (devices.address d) (v d) (addressed d) (grant_for d) refl xs r is keeps
+          (h.standing d there));
+      facts = calm_facts (takes_beacon d xs r) tt;
     }
     next (misses_beacon d r) is there keeps = record {
-      steady = steadily.missed_steady m k ds d r h.steady;
-      standing = missed_standing d there r is keeps;
-      facts = same_facts m devices ds (news d None r ∷ ds) refl refl h.facts;
+      steady = call_steady (misses_beacon d r) d refl;
+      standing = call_standing (misses_beacon d r) d refl
+          (own_missed k ds h.steady d (devices.address d) (v d) (addressed d) (grant_for d) refl r is keeps
+          (h.standing d there));
+      facts = calm_facts (misses_beacon d r) tt;
     }
     next (is_offered d x r) is there keeps = record {
-      steady = steadily.offered_steady m k ds d x r h.steady;
-      standing = offered_standing d there x r is;
-      facts = offered_facts d x r;
+      steady = call_steady (is_offered d x r) d refl;
+      standing = call_standing (is_offered d x r) d refl
+          (own_offered k ds h.steady d (devices.address d) (v d) (addressed d) (grant_for d) refl x r is
+          (h.standing d there));
+      facts = calm_facts (is_offered d x r) tt;
     }
     next (sends d t buffer r memory) is there keeps =
-        let standing = sent_standing d there t buffer r memory is.0 is.1 keeps in
+        let standing = call_standing (sends d t buffer r memory) d refl
+        (own_sent k ds h.steady d (devices.address d) (v d) (addressed d) (grant_for d) refl t buffer r memory is.0 is.1
+        keeps (h.standing d there)) in
         record {
-          steady = steadily.sent_steady m k ds d t buffer r memory h.steady;
+          steady = call_steady (sends d t buffer r memory) d refl;
           standing = standing;
           facts = sent_facts d there t buffer r memory keeps standing;
         }
     next (writes_management d buffer r memory) is there keeps = record {
-      steady = steadily.written_steady m k ds d buffer r memory h.steady;
-      standing = written_standing d there buffer r memory is.0;
-      facts = same_facts m devices ds (nothing ∷ ds) refl refl h.facts;
+      steady = call_steady (writes_management d buffer r memory) d refl;
+      standing = call_standing (writes_management d buffer r memory) d refl
+          (own_written k ds h.steady d (devices.address d) (v d) (addressed d) (grant_for d) refl buffer r memory is.0
+          (h.standing d there));
+      facts = calm_facts (writes_management d buffer r memory) tt;
     }
     next (takes_management d xs r) is there keeps = record {
-      steady = steadily.took_steady m k ds d xs r h.steady;
-      standing = took_standing d there xs r is keeps;
-      facts = took_facts d xs r;
+      steady = call_steady (takes_management d xs r) d refl;
+      standing = call_standing (takes_management d xs r) d refl
+          (own_took k ds h.steady d (devices.address d) (v d) (addressed d) (grant_for d) refl xs r is keeps
+          (h.standing d there));
+      facts = calm_facts (takes_management d xs r) tt;
     }
 
   -- before the first call

@@ -1,6 +1,7 @@
 pub mod DeviceBook
 pub mod StateAgreesWithHistory
 pub mod TheBookGivesTheGuarantee
+pub mod CallsAtADevice
 pub mod CallsKeepTheCoordinatorSteady
 pub mod OtherCallsKeepTheBook
 pub mod FramesAreOwnOrRepeats

@@ -20,10 +20,11 @@ use Rattle.device.specs.declared.device.Device.{Device}
 use Rattle.device.specs.declared.fate.Fate.{Fate}
 use Rattle.device.specs.Steps as device
 use Rattle.network.specs.Calls.{set_mode, opens, hears_management, closes, takes_beacon, misses_beacon, is_offered}
-use Rattle.network.specs.Calls.{sends, writes_management, takes_management}
-use Rattle.network.specs.Deeds.{Deed, opening, closing, reply, news, acceptance, transmission, taking, nothing, deed}
+use Rattle.network.specs.Calls.{sends, writes_management, takes_management, is_at}
+use Rattle.network.specs.Deeds.{Deed, opening, closing, hand_up, reply, news, acceptance, transmission, taking, nothing, deed}
 use Rattle.network.specs.History.{Among, Sending, superframes, learned, sendings, accepted, told, own_sendings}
 use Rattle.network.specs.History.{arrivals, under_way, waits}
+use Rattle.network.proofs.CallsAtADevice.{OfADevice, performer}
 use Rattle.network.proofs.DeviceBook.{Line, AllBefore, landing_of, Agrees}
 use Rattle.network.proofs.StateAgreesWithHistory.{Sound, Outside, Steady, Standing}
 
@@ -252,23 +253,19 @@ module _ {C : Type 0} (image : C → List ℕ) (m : PlanMeaning) (e : ℕ) where
         → Standing image m.numbers e o k v (reply xs ∷ ds)
     replied xs s = still image m.numbers e o k v (reply xs ∷ ds) ds (unmoved e ds) refl refl s
 
-    pub elsewhere_taking : (d : ℕ) (xs : List ℕ) → Standing image m.numbers e o k v ds
-        → Standing image m.numbers e o k v (taking d xs ∷ ds)
-    elsewhere_taking d xs s = still image m.numbers e o k v (taking d xs ∷ ds) ds (unmoved e ds) refl refl s
-
-    pub elsewhere_news : (d : ℕ) → eqb d e ≡ false → (b : Option (List ℕ)) (φ : Option Fate)
+    elsewhere_news : (d : ℕ) → eqb d e ≡ false → (b : Option (List ℕ)) (φ : Option Fate)
         → Standing image m.numbers e o k v ds → Standing image m.numbers e o k v (news d b φ ∷ ds)
     elsewhere_news d differ b φ s =
         let same : Same e (news d b φ ∷ ds) ds = rw differ (unmoved e ds) in
         still image m.numbers e o k v (news d b φ ∷ ds) ds same (rw differ) refl s
 
-    pub elsewhere_acceptance : (d : ℕ) → eqb d e ≡ false → (x : C) → Standing image m.numbers e o k v ds
+    elsewhere_acceptance : (d : ℕ) → eqb d e ≡ false → (x : C) → Standing image m.numbers e o k v ds
         → Standing image m.numbers e o k v (acceptance d x ∷ ds)
     elsewhere_acceptance d differ x s =
         let same : Same e (acceptance d x ∷ ds) ds = rw differ (unmoved e ds) in
         still image m.numbers e o k v (acceptance d x ∷ ds) ds same refl refl s
 
-    pub elsewhere_transmission : (d : ℕ) → eqb d e ≡ false → (t : ℕ) (xs : List ℕ)
+    elsewhere_transmission : (d : ℕ) → eqb d e ≡ false → (t : ℕ) (xs : List ℕ)
         → Standing image m.numbers e o k v ds → Standing image m.numbers e o k v (transmission d t xs ∷ ds)
     elsewhere_transmission d differ t xs s =
         let same : Same e (transmission d t xs ∷ ds) ds = record {
@@ -287,38 +284,17 @@ module _ {C : Type 0} (image : C → List ℕ) (m : PlanMeaning) (e : ℕ) where
         } in
         still image m.numbers e o k v (transmission d t xs ∷ ds) ds same refl refl s
 
-    -- calls at another device
-
-    pub beacon_elsewhere : (d : ℕ) → eqb d e ≡ false → (xs : List ℕ) (r : Result (Option Fate) Fault)
-        → Standing image m.numbers e o k v ds → Standing image m.numbers e o k v (deed (takes_beacon d xs r) ∷ ds)
-    beacon_elsewhere d differ xs (Ok φ) s = elsewhere_news d differ (Some xs) φ s
-    beacon_elsewhere d differ xs (Err f) s = idle s
-
-    pub missed_elsewhere : (d : ℕ) → eqb d e ≡ false → (r : Option Fate) → Standing image m.numbers e o k v ds
-        → Standing image m.numbers e o k v (deed (misses_beacon d r) ∷ ds)
-    missed_elsewhere d differ r s = elsewhere_news d differ None r s
-
-    pub offered_elsewhere : (d : ℕ) → eqb d e ≡ false → (x : C) (r : Result (Unit {0}) Fault)
-        → Standing image m.numbers e o k v ds → Standing image m.numbers e o k v (deed (is_offered d x r) ∷ ds)
-    offered_elsewhere d differ x (Ok u) s = elsewhere_acceptance d differ x s
-    offered_elsewhere d differ x (Err f) s = idle s
-
-    pub sent_elsewhere : (d : ℕ) → eqb d e ≡ false → (t : ℕ) (buffer : List ℕ) (r : Result ℕ Fault) (memory : List ℕ)
-        → Standing image m.numbers e o k v ds
-        → Standing image m.numbers e o k v (deed (sends d t buffer r memory) ∷ ds)
-    sent_elsewhere d differ t buffer (Ok zero) memory s = idle s
-    sent_elsewhere d differ t buffer (Ok (suc l)) memory s = elsewhere_transmission d differ t (take (suc l) memory) s
-    sent_elsewhere d differ t buffer (Err f) memory s = idle s
-
-    pub written_elsewhere : (d : ℕ) → eqb d e ≡ false → (buffer : List ℕ) (r : Result ℕ Fault) (memory : List ℕ)
-        → Standing image m.numbers e o k v ds
-        → Standing image m.numbers e o k v (deed (writes_management d buffer r memory) ∷ ds)
-    written_elsewhere d differ buffer r memory s = idle s
-
-    pub took_elsewhere : (d : ℕ) → eqb d e ≡ false → (xs : List ℕ) (r : Result (Unit {0}) Fault)
-        → Standing image m.numbers e o k v ds → Standing image m.numbers e o k v (deed (takes_management d xs r) ∷ ds)
-    took_elsewhere d differ xs (Ok u) s = elsewhere_taking d xs s
-    took_elsewhere d differ xs (Err f) s = idle s
+    -- deeds of another device
+    pub elsewhere : (x : Deed C) → OfADevice x → is_at e (performer x) ≡ false → Standing image m.numbers e o k v ds
+        → Standing image m.numbers e o k v (x ∷ ds)
+    elsewhere (opening xs) of differ s = absurd of
+    elsewhere closing of differ s = absurd of
+    elsewhere (hand_up t xs simple x) of differ s = absurd of
+    elsewhere (reply xs) of differ s = absurd of
+    elsewhere (news d b φ) of differ s = elsewhere_news d differ b φ s
+    elsewhere (acceptance d x) of differ s = elsewhere_acceptance d differ x s
+    elsewhere (transmission d t xs) of differ s = elsewhere_transmission d differ t xs s
+    elsewhere x of differ s = still image m.numbers e o k v (x ∷ ds) ds (unmoved e ds) refl refl s
 
     -- calls of the coordinator
 

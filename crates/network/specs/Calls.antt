@@ -1,5 +1,5 @@
 -- A network as both ends' states, and the calls of a run with their answers.
-use Rattle.std.specs.Prelude.{◌≡◌, ℕ, cond, List, Option, Result, ◌==◌}
+use Rattle.std.specs.Prelude.{◌≡◌, ℕ, Bool, false, cond, List, Some, None, Option, Result, ◌==◌}
 use Rattle.frame.specs.declared.faults.Fault.{Fault}
 use Rattle.plan.specs.Rules.{PlanMeaning}
 use Rattle.coordinator.specs.declared.heard.Heard.{Heard}
@@ -31,6 +31,21 @@ pub data Call (C : Type 0) : Type 0 where
   writes_management : ℕ → List ℕ → Result ℕ Fault → List ℕ → Call C
   takes_management : ℕ → List ℕ → Result (Unit {0}) Fault → Call C
 
+-- the device at which a call is made, by its place, or none where it is made at the coordinator
+abbrev pub device_of : {C : Type 0} → Call C → Option ℕ
+device_of (takes_beacon d xs r) = Some d
+device_of (misses_beacon d r) = Some d
+device_of (is_offered d x r) = Some d
+device_of (sends d t buffer r memory) = Some d
+device_of (writes_management d buffer r memory) = Some d
+device_of (takes_management d xs r) = Some d
+device_of c = None
+
+-- whether that is the device at place e
+abbrev pub is_at : ℕ → Option ℕ → Bool
+is_at e None = false
+is_at e (Some d) = d == e
+
 -- the states of both ends
 pub record Hall (C : Type 0) : Type 0 where
   pub coordinator : Inner
@@ -46,15 +61,19 @@ module _ {C : Type 0} (image : C → List ℕ) (m : PlanMeaning) where
   coordinator_after s (closes k r) = close_state s k
   coordinator_after s c = s
 
+  -- the device at which a call is made, after it
+  abbrev pub stepped : Device C → Call C → Device C
+  stepped v (takes_beacon d xs r) = beacon_state v xs
+  stepped v (misses_beacon d r) = missed_state v
+  stepped v (is_offered d x r) = offer_state image v x
+  stepped v (sends d t buffer r memory) = send_state image v t buffer
+  stepped v (writes_management d buffer r memory) = write_state v buffer
+  stepped v (takes_management d xs r) = take_state v xs
+  stepped v c = v
+
   -- the device at place e after a call
   abbrev pub device_after : ℕ → Device C → Call C → Device C
-  device_after e v (takes_beacon d xs r) = cond (d == e) (beacon_state v xs) v
-  device_after e v (misses_beacon d r) = cond (d == e) (missed_state v) v
-  device_after e v (is_offered d x r) = cond (d == e) (offer_state image v x) v
-  device_after e v (sends d t buffer r memory) = cond (d == e) (send_state image v t buffer) v
-  device_after e v (writes_management d buffer r memory) = cond (d == e) (write_state v buffer) v
-  device_after e v (takes_management d xs r) = cond (d == e) (take_state v xs) v
-  device_after e v c = v
+  device_after e v c = cond (is_at e (device_of c)) (stepped v c) v
 
   abbrev pub after : Hall C → Call C → Hall C
   after h c =

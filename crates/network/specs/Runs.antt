@@ -1,11 +1,10 @@
 -- Runs of a network: any calls in any arrangement that keeps the rules of the network.
-use Rattle.std.specs.Prelude.{◌≡◌, ℕ, ◌<◌, true, false, List, [], ◌∷◌, map, is_some, Some, None}
+use Rattle.std.specs.Prelude.{◌≡◌, ℕ, ◌<◌, true, false, List, [], ◌∷◌, map, is_some, Some, None, Option}
 use Rattle.frame.specs.declared.command.Wish.{Wish}
 use Rattle.plan.specs.Rules.{PlanMeaning}
 use Rattle.coordinator.specs.Steps as coordinator
 use Rattle.device.specs.Steps as device
-use Rattle.network.specs.Calls.{Call, set_mode, opens, hears, hears_management, closes, takes_beacon, misses_beacon}
-use Rattle.network.specs.Calls.{is_offered, sends, writes_management, takes_management, Hall, after, Answers}
+use Rattle.network.specs.Calls.{Call, Hall, device_of, after, Answers}
 use Rattle.network.specs.Deeds.{Deed, opening, closing, hand_up, reply, news, acceptance, transmission, taking}
 use Rattle.network.specs.Deeds.{nothing, deed}
 use Rattle.network.specs.History.{Among, Sending, superframes, announced, learned, replies, sendings}
@@ -20,15 +19,13 @@ pub record Devices : Type 0 where
 abbrev pub Different : Devices → Type 0
 Different ds = (d e : ℕ) → d < ds.count → e < ds.count → ds.address d ≡ ds.address e → d ≡ e
 
--- the call is at one of so many devices, or at the coordinator
+-- a call is at one of so many devices, or at the coordinator
+abbrev pub IsThere : ℕ → Option ℕ → Type 0
+IsThere count (Some d) = d < count
+IsThere count None = Unit {0}
+
 abbrev pub Present : {C : Type 0} → ℕ → Call C → Type 0
-Present count (takes_beacon d xs r) = d < count
-Present count (misses_beacon d r) = d < count
-Present count (is_offered d x r) = d < count
-Present count (sends d t buffer r memory) = d < count
-Present count (writes_management d buffer r memory) = d < count
-Present count (takes_management d xs r) = d < count
-Present count c = Unit {0}
+Present count c = IsThere count (device_of c)
 
 module _ {C : Type 0} where
   -- octets were sent in a timeslot of the superframe that was opened last
