@@ -198,8 +198,8 @@ module _ {C : Type 0} (image : C → List ℕ) (m : PlanMeaning) (devices : Devi
           ∙ own_is_no_repeat m rules at.0 g at.1
 
       again_there : (u : ℕ) → repeat_start m.numbers bitmap g ≡ Some u → r u ≡ true
-      again_there u starts = let at =
-          grant_found m rules (devices.address e) g found in
+      again_there u starts =
+          let at = grant_found m rules (devices.address e) g found in
           repeats_are_for_retransmission m rules at.0 g at.1 bitmap u starts
 
       -- the frames on the air are among those sent, as these and the own sendings are after this one

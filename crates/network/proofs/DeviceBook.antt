@@ -5,6 +5,7 @@ use Rattle.device.specs.declared.fate.Fate.{Fate}
 use Rattle.device.specs.declared.fate.Fate.TheVariants as fate
 use Rattle.network.specs.Deeds.{Deed}
 use Rattle.network.specs.History.{Telling, Arrival, superframes, accepted, told, own_sendings, arrivals, under_way}
+use Rattle.network.specs.History.{sent_since}
 use Rattle.network.specs.History.{waits}
 
 -- the cargo, the superframe in which it was sent, whether it was handed up from its own timeslot, whether as a
@@ -88,4 +89,5 @@ pub record Agrees {C : Type 0} (again : ℕ → Bool) (simple : Option ℕ) (e :
   pub just : AllJust book
   pub before : AllBefore (superframes ds) book
   pub under_way : under_way e again ds ≡ count sent
+  pub sent_since : sent_since e again ds ≡ count sent
   pub waits : waits e again ds ≡ count waiting

@@ -128,6 +128,7 @@ module _ {C : Type 0} (image : C → List ℕ) (short : (x : C) → length (imag
       no_accepted = s.no_accepted;
       no_told = s.no_told;
       none_under_way = s.none_under_way;
+      none_since = s.none_since;
       no_waits = s.no_waits;
       no_sendings = s.no_sendings;
     }
@@ -188,24 +189,24 @@ module _ {C : Type 0} (image : C → List ℕ) (short : (x : C) → length (imag
         → r ≡ device.beacon_answer v xs → KeepsRules devices.count ds (deed (takes_beacon e xs r)) → Own o v ds
         → Own o (device.beacon_state v xs) (deed (takes_beacon e xs r) ∷ ds)
     own_beacon None found xs r is keeps s = NewsKeep.outside_beaconed e v ds s xs r is
-    own_beacon (Some g) found xs r is keeps s = let w =
-        grant_found m rules a g found in
+    own_beacon (Some g) found xs r is keeps s =
+        let w = grant_found m rules a g found in
         NewsKeep.beaconed image m rules e w.0 g w.1 k v ds steady xs r devices.count is keeps s
 
     own_missed : (o : Option Grant) → grant_of m a ≡ o → (r : Option Fate) → r ≡ device.missed_answer v
         → KeepsRules devices.count ds (deed (misses_beacon e r)) → Own o v ds
         → Own o (device.missed_state v) (deed (misses_beacon e r) ∷ ds)
     own_missed None found r is keeps s = NewsKeep.outside_missed e v ds s r is
-    own_missed (Some g) found r is keeps s = let w =
-        grant_found m rules a g found in
+    own_missed (Some g) found r is keeps s =
+        let w = grant_found m rules a g found in
         NewsKeep.missed image m rules e w.0 g w.1 k v ds steady r devices.count is keeps s
 
     own_offered : (o : Option Grant) → grant_of m a ≡ o → (x : C) (r : Result (Unit {0}) Fault)
         → r ≡ device.offer_answer image v x → Own o v ds
         → Own o (device.offer_state image v x) (deed (is_offered e x r) ∷ ds)
     own_offered None found x r is s = DevicesKeep.outside_offered e v ds s image x r is
-    own_offered (Some g) found x r is s = let w =
-        grant_found m rules a g found in DevicesKeep.offered image m rules e w.0 g w.1 k v ds steady x r is s
+    own_offered (Some g) found x r is s =
+        let w = grant_found m rules a g found in DevicesKeep.offered image m rules e w.0 g w.1 k v ds steady x r is s
 
     own_sent : (o : Option Grant) → grant_of m a ≡ o
         → (t : ℕ) (buffer : List ℕ) (r : Result ℕ Fault) (memory : List ℕ) → r ≡ device.send_answer image v t buffer
@@ -214,16 +215,16 @@ module _ {C : Type 0} (image : C → List ℕ) (short : (x : C) → length (imag
         → Own o (device.send_state image v t buffer) (deed (sends e t buffer r memory) ∷ ds)
     own_sent None found t buffer r memory is left keeps s =
         DevicesKeep.outside_sent e v ds s image t buffer r memory is
-    own_sent (Some g) found t buffer r memory is left keeps s = let w =
-        grant_found m rules a g found in
+    own_sent (Some g) found t buffer r memory is left keeps s =
+        let w = grant_found m rules a g found in
         DevicesKeep.sent image m rules e w.0 g w.1 k v ds steady t buffer r memory devices.count is left keeps s
 
     own_written : (o : Option Grant) → grant_of m a ≡ o → (buffer : List ℕ) (r : Result ℕ Fault) (memory : List ℕ)
         → r ≡ device.write_answer v buffer → Own o v ds
         → Own o (device.write_state v buffer) (deed (writes_management e buffer r memory) ∷ ds)
     own_written None found buffer r memory is s = DevicesKeep.outside_written e v ds s buffer r memory is
-    own_written (Some g) found buffer r memory is s = let w =
-        grant_found m rules a g found in
+    own_written (Some g) found buffer r memory is s =
+        let w = grant_found m rules a g found in
         DevicesKeep.written image m rules e w.0 g w.1 k v ds steady buffer r memory is s
 
     own_took : (o : Option Grant) → grant_of m a ≡ o → (xs : List ℕ) (r : Result (Unit {0}) Fault)
@@ -232,8 +233,8 @@ module _ {C : Type 0} (image : C → List ℕ) (short : (x : C) → length (imag
     own_took None found xs r is keeps s =
         DevicesKeep.outside_took e v ds s m rules k steady
         (λ i g at q. nobody a found i g at (q ∙ address)) xs r devices.count is keeps
-    own_took (Some g) found xs r is keeps s = let w =
-        grant_found m rules a g found in
+    own_took (Some g) found xs r is keeps s =
+        let w = grant_found m rules a g found in
         DevicesKeep.took image m rules e w.0 g w.1 k v ds steady xs r devices.count is keeps s
 
   -- Every call.
@@ -304,7 +305,8 @@ module _ {C : Type 0} (image : C → List ℕ) (short : (x : C) → length (imag
         (λ e here differ.
         let off : is_at e (device_of c) ≡ false = ap (is_at e) at ∙ differ in
         let some : is_some (device_of c) ≡ true = ap is_some at in
-        rw off (others.elsewhere image m e (grant_for e) k (v e) ds (deed c) (of_a_device c some) (of_another e c some off)
+        rw off (others.elsewhere image m e (grant_for e) k (v e) ds (deed c) (of_a_device c some)
+        (of_another e c some off)
         (h.standing e here)))
 
     -- and what holds of the coordinator
@@ -423,7 +425,8 @@ module _ {C : Type 0} (image : C → List ℕ) (short : (x : C) → length (imag
     }
     next (sends d t buffer r memory) is there keeps =
         let standing = call_standing (sends d t buffer r memory) d refl
-        (own_sent k ds h.steady d (devices.address d) (v d) (addressed d) (grant_for d) refl t buffer r memory is.0 is.1
+        (own_sent k ds h.steady d (devices.address d) (v d) (addressed d)
+        (grant_for d) refl t buffer r memory is.0 is.1
         keeps (h.standing d there)) in
         record {
           steady = call_steady (sends d t buffer r memory) d refl;

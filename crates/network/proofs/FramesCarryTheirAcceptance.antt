@@ -52,8 +52,8 @@ module _ {C : Type 0} where
   before_flying : (s b : ℕ) (sent : Option C) (x : C) (book : List (Line C)) (ss : List ℕ) → sent ≡ Some x
       → s ∷ ss ≡ since b sent ++ map (λ y. y.sent) book → length ss ≡ length book
   before_flying s b None x book ss flies e = absurd cc
-  before_flying s b (Some y) x book ss flies e = let a = ap length e in let c =
-      length-map book (λ (l : Line C). l.sent) in omega arith
+  before_flying s b (Some y) x book ss flies e = let a = ap length e in
+      let c = length-map book (λ (l : Line C). l.sent) in omega arith
 
   -- the top line of the book
   pub topped : (top : Line C) (rest book : List (Line C)) (k : ℕ) → book ≡ top ∷ rest → k ≡ length book

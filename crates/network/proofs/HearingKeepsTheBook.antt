@@ -110,6 +110,7 @@ module _ {C : Type 0} (image : C → List ℕ) (m : PlanMeaning) (rules : Rules 
             just = a.just;
             before = a.before;
             under_way = a.under_way;
+            sent_since = a.sent_since;
             waits = a.waits;
           }
 
@@ -232,6 +233,7 @@ module _ {C : Type 0} (image : C → List ℕ) (m : PlanMeaning) (rules : Rules 
             just = (just_again, just_before.1);
             before = before_again;
             under_way = a.under_way;
+            sent_since = a.sent_since;
             waits = a.waits;
           }
 
@@ -311,7 +313,8 @@ module _ {C : Type 0} (image : C → List ℕ) (m : PlanMeaning) (rules : Rules 
               sender_is k.sent steady.sent_alike t i g at (inl (sym slot)),
               subst (λ (z : C). Sound image m.numbers e g k.opened (gathering m.numbers t k.gathered g) k.sent t v
                   (hand_up t xs g.simple z ∷ ds)) same
-                  (own_heard e i g at k.opened opened k.gathered k.sent k.last v ds s f.0 t xs above w.cargo slot w.sent (marked_own i g k.gathered at steady.size)),
+                  (own_heard e i g at k.opened opened k.gathered k.sent k.last v ds s f.0 t xs above w.cargo slot
+                  w.sent (marked_own i g k.gathered at steady.size)),
             )
 
         again : AgainFrame image m.numbers g k.sent k.last v s.book y
@@ -333,7 +336,8 @@ module _ {C : Type 0} (image : C → List ℕ) (m : PlanMeaning) (rules : Rules 
               sender_is k.sent steady.sent_alike t i g at (inr there.starts),
               subst (λ (z : C). Sound image m.numbers e g k.opened (gathering m.numbers t k.gathered g) k.sent t v
                   (hand_up t xs g.simple z ∷ ds)) same
-                  (again_heard e i g at k.opened opened k.gathered k.sent k.last v ds s f.0 t xs above w.cargo there w.spent (λ a. let l = w.once a in omega arith)),
+                  (again_heard e i g at k.opened opened k.gathered k.sent k.last v ds s f.0 t xs above w.cargo there
+                  w.spent (λ a. let l = w.once a in omega arith)),
             )
 
     -- the devices that did not send it: no arrival is theirs, and their bits stay
@@ -359,6 +363,7 @@ module _ {C : Type 0} (image : C → List ℕ) (m : PlanMeaning) (rules : Rules 
         just = s.agrees.just;
         before = s.agrees.before;
         under_way = s.agrees.under_way;
+        sent_since = s.agrees.sent_since;
         waits = s.agrees.waits;
       };
       unheard = λ o u. same_bit ∙ s.unheard o u;

@@ -114,6 +114,7 @@ module _ {C : Type 0} (image : C → List ℕ) (n : Numbers) (e : ℕ) (g : Gran
         just = s.agrees.just;
         before = s.agrees.before;
         under_way = rw itself (s.agrees.under_way ∙ ap count q);
+        sent_since = rw itself refl;
         waits = s.agrees.waits;
       };
       unheard = rw itself (λ o l. absurd cc);
@@ -145,6 +146,7 @@ module _ {C : Type 0} (image : C → List ℕ) (n : Numbers) (e : ℕ) (g : Gran
         just = (just, s.agrees.just);
         before = (omega arith, s.agrees.before);
         under_way = rw itself refl;
+        sent_since = rw itself refl;
         waits = s.agrees.waits;
       };
       unheard = rw itself (λ o l. absurd cc);
@@ -360,9 +362,11 @@ module _ {C : Type 0} (image : C → List ℕ) (n : Numbers) (e : ℕ) (g : Gran
   missed_with : (o : Option C) → v.sent ≡ o
       → Next (device.missed_state v) (news e None (option_map (λ _. fate.Unknown) o) ∷ ds)
   missed_with None q =
-      without image n e g gathered sent last v ds v.phase v.configuration brought.Missed s.configured None counted unaware s q
+      without image n e g gathered sent last v ds v.phase v.configuration brought.Missed s.configured None counted unaware
+      s q
   missed_with (Some x) q =
-      with_line image n e g gathered sent last v ds v.phase v.configuration brought.Missed s.configured None counted unaware s x fate.Unknown None q
+      with_line image n e g gathered sent last v ds v.phase v.configuration brought.Missed s.configured None counted
+      unaware s x fate.Unknown None q
       (unknown x _ _) (λ r h. absurd cc)
 
   missed_then : Next (device.missed_state v) (news e None (device.missed_answer v) ∷ ds)
@@ -491,6 +495,7 @@ module _ {C : Type 0} (e : ℕ) (v : Device C) (ds : List (Deed C)) (o : Outside
         no_accepted = o.no_accepted;
         no_told = rw itself o.no_told;
         none_under_way = λ again. rw itself (o.none_under_way again);
+        none_since = λ again. rw itself refl;
         no_waits = o.no_waits;
         no_sendings = o.no_sendings;
       }

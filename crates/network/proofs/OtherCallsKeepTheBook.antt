@@ -21,9 +21,10 @@ use Rattle.device.specs.declared.fate.Fate.{Fate}
 use Rattle.device.specs.Steps as device
 use Rattle.network.specs.Calls.{set_mode, opens, hears_management, closes, takes_beacon, misses_beacon, is_offered}
 use Rattle.network.specs.Calls.{sends, writes_management, takes_management, is_at}
-use Rattle.network.specs.Deeds.{Deed, opening, closing, hand_up, reply, news, acceptance, transmission, taking, nothing, deed}
+use Rattle.network.specs.Deeds.{Deed, opening, closing, hand_up, reply, news, acceptance, transmission, taking}
+use Rattle.network.specs.Deeds.{nothing, deed}
 use Rattle.network.specs.History.{Among, Sending, superframes, learned, sendings, accepted, told, own_sendings}
-use Rattle.network.specs.History.{arrivals, under_way, waits}
+use Rattle.network.specs.History.{arrivals, under_way, sent_since, waits}
 use Rattle.network.proofs.CallsAtADevice.{OfADevice, performer}
 use Rattle.network.proofs.DeviceBook.{Line, AllBefore, landing_of, Agrees}
 use Rattle.network.proofs.StateAgreesWithHistory.{Sound, Outside, Steady, Standing}
@@ -37,6 +38,7 @@ Same e ds before = record {
   arrives : (again : ℕ → Bool) (simple : ℕ)
       → arrivals e again (Some simple) ds ≡ arrivals e again (Some simple) before;
   flies : (again : ℕ → Bool) → under_way e again ds ≡ under_way e again before;
+  since : (again : ℕ → Bool) → sent_since e again ds ≡ sent_since e again before;
   waiting : (again : ℕ → Bool) → waits e again ds ≡ waits e again before;
   older : (x : Sending) → Among x (sendings ds) → x.device ≡ e → Among x (sendings before);
 }
@@ -48,6 +50,7 @@ unmoved e ds = record {
   sends = λ again. refl;
   arrives = λ again simple. refl;
   flies = λ again. refl;
+  since = λ again. refl;
   waiting = λ again. refl;
   older = λ x among here. among;
 }
@@ -70,6 +73,7 @@ agrees_still again simple e ds before waiting sent k bit book same grows a = rec
   just = a.just;
   before = later _ _ book grows a.before;
   under_way = same.flies again ∙ a.under_way;
+  sent_since = same.since again ∙ a.sent_since;
   waits = same.waiting again ∙ a.waits;
 }
 
@@ -82,6 +86,7 @@ outside_still e v ds before same s = record {
   no_accepted = same.accepts ∙ s.no_accepted;
   no_told = same.tells ∙ s.no_told;
   none_under_way = λ again. same.flies again ∙ s.none_under_way again;
+  none_since = λ again. same.since again ∙ s.none_since again;
   no_waits = λ again. same.waiting again ∙ s.no_waits again;
   no_sendings = λ x among here. s.no_sendings x (same.older x among here) here;
 }
@@ -191,6 +196,7 @@ module _ {C : Type 0} (image : C → List ℕ) (m : PlanMeaning) (e : ℕ) where
     no_accepted = refl;
     no_told = refl;
     none_under_way = λ again. refl;
+    none_since = λ again. refl;
     no_waits = λ again. refl;
     no_sendings = λ x among here. among;
   }
@@ -211,8 +217,8 @@ module _ {C : Type 0} (image : C → List ℕ) (m : PlanMeaning) (e : ℕ) where
       arrives = refl;
       just = tt;
       before = tt;
-      under_way =
-          refl;
+      under_way = refl;
+      sent_since = refl;
       waits = refl;
     };
     unheard = λ is. absurd cc;
@@ -274,6 +280,7 @@ module _ {C : Type 0} (image : C → List ℕ) (m : PlanMeaning) (e : ℕ) where
           sends = λ again. rw differ;
           arrives = λ again simple. refl;
           flies = λ again. rw differ;
+          since = λ again. rw differ;
           waiting = λ again. rw differ;
           older = λ x among here.
               elim among [

@@ -88,6 +88,7 @@ module _ {C : Type 0} (image : C → List ℕ) (n : Numbers) (e : ℕ) (g : Gran
         just = s.agrees.just;
         before = s.agrees.before;
         under_way = s.agrees.under_way;
+        sent_since = s.agrees.sent_since;
         waits = s.agrees.waits;
       };
       unheard = s.unheard;
@@ -144,6 +145,7 @@ module _ {C : Type 0} (image : C → List ℕ) (n : Numbers) (e : ℕ) (g : Gran
           just = s.agrees.just;
           before = s.agrees.before;
           under_way = s.agrees.under_way;
+          sent_since = s.agrees.sent_since;
           waits = rw itself refl;
         };
         unheard = s.unheard;
@@ -333,6 +335,7 @@ module _ {C : Type 0} (image : C → List ℕ) (n : Numbers) (e : ℕ) (g : Gran
           just = s.agrees.just;
           before = s.agrees.before;
           under_way = rw (itself, late) refl;
+          sent_since = rw (itself, late) refl;
           waits = rw (itself, late) refl;
         };
         unheard = s.unheard;
@@ -385,6 +388,7 @@ module _ {C : Type 0} (image : C → List ℕ) (n : Numbers) (e : ℕ) (g : Gran
           just = s.agrees.just;
           before = s.agrees.before;
           under_way = rw (itself, early) s.agrees.under_way;
+          sent_since = rw (itself, early) s.agrees.sent_since;
           waits = rw (itself, early) s.agrees.waits;
         };
         unheard = s.unheard;
@@ -544,6 +548,7 @@ module _ {C : Type 0} (e : ℕ) (v : Device C) (ds : List (Deed C)) (o : Outside
       no_accepted = o.no_accepted;
       no_told = o.no_told;
       none_under_way = o.none_under_way;
+      none_since = o.none_since;
       no_waits = o.no_waits;
       no_sendings = o.no_sendings;
     }
@@ -556,6 +561,7 @@ module _ {C : Type 0} (e : ℕ) (v : Device C) (ds : List (Deed C)) (o : Outside
       no_accepted = o.no_accepted;
       no_told = o.no_told;
       none_under_way = o.none_under_way;
+      none_since = o.none_since;
       no_waits = o.no_waits;
       no_sendings = o.no_sendings;
     }

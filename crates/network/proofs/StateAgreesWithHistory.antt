@@ -21,7 +21,7 @@ use Rattle.device.specs.declared.fate.Fate.TheVariants as fate
 use Rattle.device.specs.declared.repeat.Repeat.{Repeat}
 use Rattle.network.specs.Deeds.{Deed}
 use Rattle.network.specs.History.{Among, Sending, superframes, announced, learned, replies, sendings, accepted, told}
-use Rattle.network.specs.History.{under_way, waits}
+use Rattle.network.specs.History.{under_way, sent_since, waits}
 use Rattle.network.proofs.DeviceBook.{Line, Agrees}
 
 -- the bitmap that has the bit of cargo that was sent and has no fate yet: the gathered one once the device has had
@@ -98,6 +98,7 @@ pub record Outside {C : Type 0} (e : ℕ) (v : Device C) (ds : List (Deed C)) : 
   pub no_accepted : accepted e ds ≡ []
   pub no_told : told e ds ≡ []
   pub none_under_way : (again : ℕ → Bool) → under_way e again ds ≡ 0
+  pub none_since : (again : ℕ → Bool) → sent_since e again ds ≡ 0
   pub no_waits : (again : ℕ → Bool) → waits e again ds ≡ 0
   pub no_sendings : (x : Sending) → Among x (sendings ds) → x.device ≡ e → ⊥
 

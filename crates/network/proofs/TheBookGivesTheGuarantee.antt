@@ -237,12 +237,12 @@ module _ {C : Type 0} where
       → length (listed waiting ++ (listed sent ++ map (λ y. y.cargo) book)) ≡ length
       (map telling_of book) + count sent + count waiting
   counted None None book = let a = length-map book (λ y. y.cargo) in let b = length-map book telling_of in omega arith
-  counted None (Some x) book = let a = length-map book (λ y. y.cargo) in let b =
-      length-map book telling_of in omega arith
-  counted (Some w) None book = let a = length-map book (λ y. y.cargo) in let b =
-      length-map book telling_of in omega arith
-  counted (Some w) (Some x) book = let a = length-map book (λ y. y.cargo) in let b =
-      length-map book telling_of in omega arith
+  counted None (Some x) book = let a = length-map book (λ y. y.cargo) in
+      let b = length-map book telling_of in omega arith
+  counted (Some w) None book = let a = length-map book (λ y. y.cargo) in
+      let b = length-map book telling_of in omega arith
+  counted (Some w) (Some x) book = let a = length-map book (λ y. y.cargo) in
+      let b = length-map book telling_of in omega arith
 
   module _ (waiting sent : Option C) (s : ℕ) (bit : Bool) (book : List (Line C)) where
     abbrev flown_arrivals : List (Landing C)
@@ -420,9 +420,15 @@ from_book {C = C} image m devices ds d carried simple waiting sent k bit book q 
       in_order =
           descending xs
           (subst (λ (l : List (Landing C)). Descending l) (sym arrived) (in_order waiting sent k bit book));
-      accounted =
-          (let a = ap length g.accepts in let b = ap length g.tells in let c = counted waiting sent book in let e =
-          g.under_way in let f = g.waits in omega arith);
+      accounted = (
+        (let a = ap length g.accepts in
+            let b = ap length g.tells in
+            let c = counted waiting sent book in
+            let e = g.under_way in
+            let f = g.waits in
+            omega arith),
+        g.under_way ∙ sym g.sent_since,
+      );
       next_superframe = next;
       fate_told = fate_told;
       by_news = by_news;
@@ -478,9 +484,14 @@ from_outside {C = C} image m devices ds d carried v q o =
     record {
       accepted_before = λ x h. absurd (subst (λ (l : List (Arrival C)). Among x l) arrived h);
       in_order = subst (λ (l : List (Arrival C)). Falling l) (sym arrived) tt;
-      accounted =
-          (let a = ap length o.no_accepted in let b = ap length o.no_told in let e = o.none_under_way r in let f =
-          o.no_waits r in omega arith);
+      accounted = (
+        (let a = ap length o.no_accepted in
+            let b = ap length o.no_told in
+            let e = o.none_under_way r in
+            let f = o.no_waits r in
+            omega arith),
+        o.none_under_way r ∙ sym (o.none_since r),
+      );
       next_superframe = next;
       fate_told = fate_told;
       by_news = by_news;

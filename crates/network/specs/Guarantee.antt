@@ -15,7 +15,7 @@ use Rattle.network.specs.Calls.{Call}
 use Rattle.network.specs.Deeds.{Deed}
 use Rattle.network.specs.History.{numbered, Among, Sending, Telling, Arrival, Repetition, Frame, Learning, sendings}
 use Rattle.network.specs.History.{accepted, told, learnings, own_sendings, own_frames, repeats, arrivals, frames}
-use Rattle.network.specs.History.{senders, under_way, waits}
+use Rattle.network.specs.History.{senders, under_way, sent_since, waits}
 use Rattle.network.specs.Runs.{Devices, Different, deeds, hall, Run}
 
 -- the grant of the device with a full address, if the plan has one
@@ -105,9 +105,13 @@ module _ {C : Type 0} (m : PlanMeaning) (devices : Devices) (ds : List (Deed C))
         → (y : Telling) × (numbered (told d ds) x.number ≡ Some y) × (y.fate ≡ fate.Repeated)
         × (y.superframe ≡ x.superframe)
 
+    -- acceptances are those whose fates were told, the one that was sent in the own timeslot and has none yet, and
+    -- the one that waits; sent
+    -- without a fate is what was sent since the last news
     abbrev pub AcceptancesAreAccountedFor : Type 0
     AcceptancesAreAccountedFor =
-        length (accepted d ds) ≡ length (told d ds) + under_way d again ds + waits d again ds
+        (length (accepted d ds) ≡ length (told d ds) + under_way d again ds + waits d again ds)
+        × (under_way d again ds ≡ sent_since d again ds)
 
     -- the account's cargo that waits, and that was sent and has no fate yet, is what the device itself says of these
     abbrev pub DeviceTellsWhatItHolds : Device C → Type 0

@@ -234,6 +234,15 @@ module _ {C : Type 0} where
       abbrev pub under_way : List (Deed C) → ℕ
       under_way ds = newest under_way_by 0 ds
 
+      -- one where it sent in its own timeslot since its last news, else none
+      abbrev pub sent_since_by : Deed C → Option ℕ
+      sent_since_by (news d b φ) = cond (d == e) (Some 0) None
+      sent_since_by (transmission d t xs) = cond (d == e && not (again t)) (Some 1) None
+      sent_since_by d = None
+
+      abbrev pub sent_since : List (Deed C) → ℕ
+      sent_since ds = newest sent_since_by 0 ds
+
       -- one where it accepted cargo since it last sent in its own timeslot, else none
       abbrev pub waits_by : Deed C → Option ℕ
       waits_by (acceptance d x) = cond (d == e) (Some 1) None
