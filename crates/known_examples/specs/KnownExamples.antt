@@ -19,7 +19,7 @@ use Rattle.cargo.specs.Images.{Reads}
 use Rattle.cargo.specs.Inputs.{panel_image}
 use Rattle.cargo.specs.Panels.{image_of, ImagesNone}
 use Rattle.cargo.specs.Readings.{reading_image}
-use Rattle.coordinator.specs.Beacons.{header_of, beacon_in, configuration_for}
+use Rattle.coordinator.specs.Frames.{header_of, beacon_in, configuration_for}
 use Rattle.device.specs.declared.state.Fate.{Fate}
 use Rattle.device.specs.declared.state.Fate.TheVariants as fate
 use Rattle.device.specs.Beacons.{Beacon}

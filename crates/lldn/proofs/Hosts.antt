@@ -5,10 +5,10 @@ use Rattle.frame.specs.Writing.{fitting}
 use Rattle.plan.specs.declared.grant.Grant.{Grant}
 use Rattle.plan.specs.declared.grant.Numbers.{Numbers}
 use Rattle.plan.specs.Rules.{PlanMeaning}
-use Rattle.coordinator.specs.declared.state.Heard.{Heard}
+use Rattle.coordinator.specs.declared.heard.Heard.{Heard}
 use Rattle.coordinator.specs.declared.state.Inner.{Inner}
-use Rattle.coordinator.specs.declared.state.Mode.{Mode}
-use Rattle.coordinator.specs.declared.state.OpenSuperframe.{OpenSuperframe}
+use Rattle.coordinator.specs.declared.mode.Mode.{Mode}
+use Rattle.coordinator.specs.declared.open_superframe.OpenSuperframe.{OpenSuperframe}
 use Rattle.coordinator.specs.Steps.{accepted, sending, hear_state, Managed, managing, noted, reply_state, manage_state, in_mode, mode_state}
 use Rattle.lldn.specs.Hosts.{holds}
 

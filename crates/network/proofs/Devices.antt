@@ -17,7 +17,7 @@ use Rattle.plan.specs.Rules.{PlanMeaning, Rules, grant_at}
 use Rattle.plan.proofs.Lawful.{addresses_differ, grant_keeps, grant_within}
 use Rattle.repeats.proofs.Starting.{started}
 use Rattle.coordinator.specs.declared.state.Inner.{Inner}
-use Rattle.coordinator.specs.Beacons.{configuration_for}
+use Rattle.coordinator.specs.Frames.{configuration_for}
 use Rattle.coordinator.specs.Steps.{beacon_of}
 use Rattle.device.specs.declared.state.Device.{Device}
 use Rattle.device.specs.declared.state.News.{News}

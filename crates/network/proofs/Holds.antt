@@ -8,10 +8,10 @@ use Rattle.plan.specs.Rules.{PlanMeaning, Rules, grant_at}
 use Rattle.plan.proofs.Lawful.{addresses_differ, names_addressed}
 use Rattle.cargo.specs.Images.{Apart}
 use Rattle.cargo.specs.Passing.{Receives}
-use Rattle.coordinator.specs.declared.state.Heard.{Heard}
+use Rattle.coordinator.specs.declared.heard.Heard.{Heard}
 use Rattle.coordinator.specs.declared.state.Inner.{Inner}
-use Rattle.coordinator.specs.declared.state.Opened.{Opened}
-use Rattle.coordinator.specs.declared.state.OpenSuperframe.{OpenSuperframe}
+use Rattle.coordinator.specs.declared.open_superframe.Opened.{Opened}
+use Rattle.coordinator.specs.declared.open_superframe.OpenSuperframe.{OpenSuperframe}
 use Rattle.coordinator.specs.Steps as coordinator
 use Rattle.device.specs.declared.state.Device.{Device}
 use Rattle.device.specs.declared.state.Fate.{Fate}

@@ -19,7 +19,7 @@ use Rattle.repeats.specs.Starts.{repeat_start, may_repeat}
 use Rattle.repeats.proofs.Sending.{acknowledged_sent, repeat_start_sent}
 use Rattle.repeats.proofs.Starting.{started}
 use Rattle.coordinator.specs.declared.state.Inner.{Inner}
-use Rattle.coordinator.specs.Beacons.{configuration_for, header_of, beacon_in, state_of}
+use Rattle.coordinator.specs.Frames.{configuration_for, header_of, beacon_in, state_of}
 use Rattle.coordinator.specs.Steps.{beacon_of}
 use Rattle.device.specs.declared.state.Device.{Device}
 use Rattle.device.specs.declared.state.Fate.{Fate}

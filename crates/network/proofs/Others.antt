@@ -10,9 +10,9 @@ use Rattle.plan.specs.Rules.{PlanMeaning}
 use Rattle.repeats.specs.Bitmaps.{place, acknowledged, nothing_heard}
 use Rattle.repeats.proofs.Alike.{zero_bit}
 use Rattle.coordinator.specs.declared.state.Inner.{Inner}
-use Rattle.coordinator.specs.declared.state.Mode.{Mode}
-use Rattle.coordinator.specs.declared.state.Opened.{Opened}
-use Rattle.coordinator.specs.declared.state.OpenSuperframe.{OpenSuperframe}
+use Rattle.coordinator.specs.declared.mode.Mode.{Mode}
+use Rattle.coordinator.specs.declared.open_superframe.Opened.{Opened}
+use Rattle.coordinator.specs.declared.open_superframe.OpenSuperframe.{OpenSuperframe}
 use Rattle.coordinator.specs.Steps as coordinator
 use Rattle.device.specs.declared.state.Device.{Device}
 use Rattle.device.specs.declared.state.Fate.{Fate}

@@ -11,7 +11,7 @@ use Rattle.repeats.specs.Bitmaps.{acknowledged, nothing_heard}
 use Rattle.repeats.specs.Starts.{repeat_start}
 use Rattle.repeats.specs.Laws.{BitsAlike}
 use Rattle.coordinator.specs.declared.state.Inner.{Inner}
-use Rattle.coordinator.specs.Beacons.{configuration_for}
+use Rattle.coordinator.specs.Frames.{configuration_for}
 use Rattle.coordinator.specs.Steps.{beacon_of}
 use Rattle.device.specs.declared.state.Device.{Device}
 use Rattle.device.specs.declared.state.Fate.TheVariants as fate

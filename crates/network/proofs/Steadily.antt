@@ -25,12 +25,12 @@ use Rattle.repeats.specs.Laws.{BitsAlike}
 use Rattle.repeats.proofs.Alike.{always_alike, stays_alike}
 use Rattle.repeats.proofs.Marking.{length-with_timeslots, marks}
 use Rattle.cargo.specs.Passing.{Receives}
-use Rattle.coordinator.specs.declared.state.Heard.{Heard}
+use Rattle.coordinator.specs.declared.heard.Heard.{Heard}
 use Rattle.coordinator.specs.declared.state.Inner.{Inner}
-use Rattle.coordinator.specs.declared.state.Mode.{Mode}
-use Rattle.coordinator.specs.declared.state.Opened.{Opened}
-use Rattle.coordinator.specs.declared.state.OpenSuperframe.{OpenSuperframe}
-use Rattle.coordinator.specs.Beacons.{state_of, configuration_for}
+use Rattle.coordinator.specs.declared.mode.Mode.{Mode}
+use Rattle.coordinator.specs.declared.open_superframe.Opened.{Opened}
+use Rattle.coordinator.specs.declared.open_superframe.OpenSuperframe.{OpenSuperframe}
+use Rattle.coordinator.specs.Frames.{state_of, configuration_for}
 use Rattle.coordinator.specs.Steps as coordinator
 use Rattle.coordinator.specs.Steps.{is_online, is_managing, is_configuring, is_open, in_mode, mode_state, beacon_of, opened_as, open_answer, open_memory, begun, open_state, somebody, sending, listening, heard_from, HearsFrom, Hears, granted, gathering, hear_state, Managed, discovered, handing, requested, thanked, acknowledging, commanded, managed_by, managed_as, managing, replying, reply_memory, noted, reply_state, manage_answer, manage_memory, manage_state, ended, close_answer, close_state}
 use Rattle.device.specs.declared.state.Fate.{Fate}

@@ -2,11 +2,11 @@
 use Rattle.std.specs.Prelude.{◌≡◌, ℕ, cond, List, Option, Result, ◌==◌}
 use Rattle.frame.specs.declared.faults.Fault.{Fault}
 use Rattle.plan.specs.Rules.{PlanMeaning}
-use Rattle.coordinator.specs.declared.state.Heard.{Heard}
+use Rattle.coordinator.specs.declared.heard.Heard.{Heard}
 use Rattle.coordinator.specs.declared.state.Inner.{Inner}
-use Rattle.coordinator.specs.declared.state.Mode.{Mode}
-use Rattle.coordinator.specs.declared.state.Opened.{Opened}
-use Rattle.coordinator.specs.declared.state.OpenSuperframe.{OpenSuperframe}
+use Rattle.coordinator.specs.declared.mode.Mode.{Mode}
+use Rattle.coordinator.specs.declared.open_superframe.Opened.{Opened}
+use Rattle.coordinator.specs.declared.open_superframe.OpenSuperframe.{OpenSuperframe}
 use Rattle.coordinator.specs.Steps.{mode_answer, mode_state, open_answer, open_memory, open_state, Hears, hear_state, manage_answer, manage_memory, manage_state, close_answer, close_state}
 use Rattle.device.specs.declared.state.Device.{Device}
 use Rattle.device.specs.declared.state.Fate.{Fate}
