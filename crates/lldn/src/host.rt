@@ -1,5 +1,6 @@
 // A coordinator together with its open superframe.
 ghost use Rattle.std.specs.Prelude.{◌≡◌, true};
+ghost use Rattle.coordinator.specs.Coordinators.{state_in};
 ghost use Rattle.lldn.specs.Hosts.{holds};
 
 use crate::plans::AnyPlan;
@@ -16,7 +17,7 @@ pub const SPACE: usize = 127;
 pub struct Host {
     coordinator: Coordinator<AnyPlan>,
     held: Option<OpenSuperframe>,
-    ghost own: { holds coordinator.inner held ≡ true },
+    ghost own: { holds (state_in coordinator) held ≡ true },
 }
 
 // A superframe that was opened: its number, and the length of its beacon.
