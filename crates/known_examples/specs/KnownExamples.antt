@@ -20,8 +20,8 @@ use Rattle.cargo.specs.Inputs.{panel_image}
 use Rattle.cargo.specs.Panels.{image_of, ImagesNone}
 use Rattle.cargo.specs.Readings.{reading_image}
 use Rattle.coordinator.specs.Beacons.{header_of, beacon_in, configuration_for}
-use Rattle.device.specs.declared.state.Fate.{Fate}
-use Rattle.device.specs.declared.state.Fate.TheVariants as fate
+use Rattle.device.specs.declared.fate.Fate.{Fate}
+use Rattle.device.specs.declared.fate.Fate.TheVariants as fate
 use Rattle.device.specs.Beacons.{Beacon}
 use Rattle.device.specs.Fates.{fate_by}
 

@@ -2,7 +2,7 @@
 use Rattle.std.proofs.Common.{◌≡◌, ℕ, Bool, true, false, cond, eqb, List, [], ◌∷◌, is_ok, Ok, Err, Result, refl, ◌∙◌}
 use Rattle.frame.specs.declared.faults.Fault.{Fault}
 use Rattle.plan.specs.Rules.{PlanMeaning}
-use Rattle.device.specs.declared.state.Device.{Device}
+use Rattle.device.specs.declared.device.Device.{Device}
 use Rattle.device.specs.Beacons.{Beacon, beacon_taken}
 use Rattle.device.specs.Phases.{thanked}
 use Rattle.device.specs.Steps as device

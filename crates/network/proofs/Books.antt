@@ -1,7 +1,7 @@
 -- A device's book: a line for each acceptance whose fate was told, the newest first.
 use Rattle.std.proofs.Common.{◌≡◌, ℕ, suc, Bool, true, false, cond, List, [], ◌∷◌, ◌++◌, map, length, Some, None, Option}
-use Rattle.device.specs.declared.state.Fate.{Fate}
-use Rattle.device.specs.declared.state.Fate.TheVariants as fate
+use Rattle.device.specs.declared.fate.Fate.{Fate}
+use Rattle.device.specs.declared.fate.Fate.TheVariants as fate
 use Rattle.network.specs.Deeds.{Deed}
 use Rattle.network.specs.History.{Telling, Arrival, accepted, told, own_sendings, arrivals, sent_since, waits}
 

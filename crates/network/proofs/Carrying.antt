@@ -7,9 +7,9 @@ use Rattle.plan.specs.Rules.{PlanMeaning, Rules}
 use Rattle.plan.proofs.Lawful.{grant_within}
 use Rattle.repeats.proofs.Serving.{within}
 use Rattle.coordinator.specs.declared.state.Inner.{Inner}
-use Rattle.device.specs.declared.state.Device.{Device}
-use Rattle.device.specs.declared.state.Fate.{Fate}
-use Rattle.device.specs.declared.state.Fate.TheVariants as fate
+use Rattle.device.specs.declared.device.Device.{Device}
+use Rattle.device.specs.declared.fate.Fate.{Fate}
+use Rattle.device.specs.declared.fate.Fate.TheVariants as fate
 use Rattle.network.specs.Deeds.{Deed, opening, closing, hand_up, reply, news, acceptance, transmission, taking, nothing}
 use Rattle.network.specs.History.{numbered, Sending, Telling, Repetition, telling, superframes, announced, accepted, told, own_sendings, own_frames}
 use Rattle.network.specs.Guarantee.{grant_of, OwnFramesCarryTheirAcceptances, RepeatsCarryWhatWasToldRepeated}

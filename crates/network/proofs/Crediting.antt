@@ -7,8 +7,8 @@ use Rattle.plan.specs.Rules.{PlanMeaning, Rules}
 use Rattle.plan.proofs.Lawful.{grant_within}
 use Rattle.repeats.proofs.Starting.{started}
 use Rattle.coordinator.specs.declared.state.Inner.{Inner}
-use Rattle.device.specs.declared.state.Device.{Device}
-use Rattle.device.specs.declared.state.Fate.{Fate}
+use Rattle.device.specs.declared.device.Device.{Device}
+use Rattle.device.specs.declared.fate.Fate.{Fate}
 use Rattle.network.specs.Deeds.{Deed, opening, closing, hand_up, reply, news, acceptance, transmission, taking, nothing}
 use Rattle.network.specs.History.{numbered, Among, Sending, Telling, Arrival, Frame, frame_at, superframes, announced, learned, sendings, told, own_sendings, arrivals, frames, heard}
 use Rattle.network.specs.Guarantee.{Paired, grant_of, simple_of, OwnFramesStartWithTheGrant, OneOwnFrameAndOneRepeatASuperframe, RepeatsComeWithTheirFate}

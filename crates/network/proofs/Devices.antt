@@ -19,13 +19,13 @@ use Rattle.repeats.proofs.Starting.{started}
 use Rattle.coordinator.specs.declared.state.Inner.{Inner}
 use Rattle.coordinator.specs.Beacons.{configuration_for}
 use Rattle.coordinator.specs.Steps.{beacon_of}
-use Rattle.device.specs.declared.state.Device.{Device}
-use Rattle.device.specs.declared.state.News.{News}
-use Rattle.device.specs.declared.state.Phase.{Phase}
+use Rattle.device.specs.declared.device.Device.{Device}
+use Rattle.device.specs.declared.news.News.{News}
+use Rattle.device.specs.declared.phase.Phase.{Phase}
 use Rattle.device.specs.Phases.{thanked}
-use Rattle.device.specs.declared.state.Phase.TheVariants as phase
+use Rattle.device.specs.declared.phase.Phase.TheVariants as phase
 use Rattle.device.specs.Steps as device
-use Rattle.device.specs.declared.state.Repeat.{Repeat}
+use Rattle.device.specs.declared.repeat.Repeat.{Repeat}
 use Rattle.device.specs.Steps.{Turn, silent, fresh, again, frame_of, after_turn, Taken, take_answer_by, take_state_by, taken_in, taken_as, taken_by, holding, offer_answer_in, offer_answer, offer_state, in_phase, is_missed, write_answer, write_state}
 use Rattle.network.specs.Calls as calls
 use Rattle.network.specs.Calls.{is_offered, writes_management, takes_management}

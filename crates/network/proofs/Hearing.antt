@@ -16,7 +16,7 @@ use Rattle.cargo.specs.Passing.{Receives}
 use Rattle.cargo.proofs.Deliveries.{delivered}
 use Rattle.coordinator.specs.declared.state.Inner.{Inner}
 use Rattle.coordinator.specs.Steps.{granted, sending, gathering}
-use Rattle.device.specs.declared.state.Device.{Device}
+use Rattle.device.specs.declared.device.Device.{Device}
 use Rattle.network.specs.Deeds.{Deed, hand_up}
 use Rattle.network.specs.History as history
 use Rattle.network.specs.History.{Among, Sending, superframes, learned, sendings}

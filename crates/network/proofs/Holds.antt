@@ -13,8 +13,8 @@ use Rattle.coordinator.specs.declared.state.Inner.{Inner}
 use Rattle.coordinator.specs.declared.state.Opened.{Opened}
 use Rattle.coordinator.specs.declared.state.OpenSuperframe.{OpenSuperframe}
 use Rattle.coordinator.specs.Steps as coordinator
-use Rattle.device.specs.declared.state.Device.{Device}
-use Rattle.device.specs.declared.state.Fate.{Fate}
+use Rattle.device.specs.declared.device.Device.{Device}
+use Rattle.device.specs.declared.fate.Fate.{Fate}
 use Rattle.device.specs.Steps as device
 use Rattle.network.specs.Calls.{Call, set_mode, opens, hears, hears_management, closes, takes_beacon, misses_beacon, is_offered, sends, writes_management, takes_management, device_after, Answers}
 use Rattle.network.specs.Deeds.{Deed, opening, closing, hand_up, reply, news, acceptance, transmission, taking, nothing, deed}

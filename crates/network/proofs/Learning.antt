@@ -1,7 +1,7 @@
 -- The news that a device had: once in a superframe, and each fate is told with news.
 use Rattle.std.proofs.Common.{◌≡◌, ℕ, suc, ◌≤◌, Bool, true, false, List, [], ◌∷◌, Some, None, Option, sym, refl, ap, ◌∙◌, subst, inl, inr, ⊎_elim, arith}
 use Rattle.std.proofs.lemmas.Bool.{both_ways, cases_eq, eq-eqb, ne_eqb}
-use Rattle.device.specs.declared.state.Fate.{Fate}
+use Rattle.device.specs.declared.fate.Fate.{Fate}
 use Rattle.network.specs.Deeds.{Deed, opening, closing, hand_up, reply, news, acceptance, transmission, taking, nothing}
 use Rattle.network.specs.History.{Among, Telling, Learning, telling, announces_online, superframes, learned, told, learnings}
 use Rattle.network.specs.Runs.{KeepsRules}

@@ -21,14 +21,15 @@ use Rattle.repeats.proofs.Starting.{started}
 use Rattle.coordinator.specs.declared.state.Inner.{Inner}
 use Rattle.coordinator.specs.Beacons.{configuration_for, header_of, beacon_in, state_of}
 use Rattle.coordinator.specs.Steps.{beacon_of}
-use Rattle.device.specs.declared.state.Device.{Device}
-use Rattle.device.specs.declared.state.Fate.{Fate}
-use Rattle.device.specs.declared.state.Fate.TheVariants as fate
-use Rattle.device.specs.declared.state.News.{News}
-use Rattle.device.specs.declared.state.News.TheVariants as brought
-use Rattle.device.specs.declared.state.Phase.{Phase}
-use Rattle.device.specs.declared.state.Repeat.{Repeat}
-use Rattle.device.specs.Beacons.{Beacon, plain, is_reset, numbers_in, grant_in, beacon_told, beacon_taken, admitted, agrees}
+use Rattle.device.specs.declared.device.Device.{Device}
+use Rattle.device.specs.declared.fate.Fate.{Fate}
+use Rattle.device.specs.declared.fate.Fate.TheVariants as fate
+use Rattle.device.specs.declared.news.News.{News}
+use Rattle.device.specs.declared.news.News.TheVariants as brought
+use Rattle.device.specs.declared.phase.Phase.{Phase}
+use Rattle.device.specs.declared.repeat.Repeat.{Repeat}
+use Rattle.device.specs.Beacons.{Beacon, plain, is_reset, beacon_told, beacon_taken, admitted, agrees}
+use Rattle.device.specs.Configurations.{numbers_in, grant_in}
 use Rattle.device.specs.Fates.{fate_by, repeat_by, by_room}
 use Rattle.device.specs.Steps as device
 use Rattle.network.specs.Calls.{misses_beacon, takes_beacon}

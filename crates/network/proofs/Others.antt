@@ -14,8 +14,8 @@ use Rattle.coordinator.specs.declared.state.Mode.{Mode}
 use Rattle.coordinator.specs.declared.state.Opened.{Opened}
 use Rattle.coordinator.specs.declared.state.OpenSuperframe.{OpenSuperframe}
 use Rattle.coordinator.specs.Steps as coordinator
-use Rattle.device.specs.declared.state.Device.{Device}
-use Rattle.device.specs.declared.state.Fate.{Fate}
+use Rattle.device.specs.declared.device.Device.{Device}
+use Rattle.device.specs.declared.fate.Fate.{Fate}
 use Rattle.device.specs.Steps as device
 use Rattle.network.specs.Calls.{set_mode, opens, hears_management, closes, takes_beacon, misses_beacon, is_offered, sends, writes_management, takes_management}
 use Rattle.network.specs.Deeds.{Deed, opening, closing, reply, news, acceptance, transmission, taking, nothing, deed}

@@ -9,7 +9,7 @@ use Rattle.repeats.specs.Starts.{repeat_start}
 use Rattle.repeats.specs.Laws.{BitsAlike}
 use Rattle.repeats.proofs.Serving.{within, apart}
 use Rattle.coordinator.specs.declared.state.Inner.{Inner}
-use Rattle.device.specs.declared.state.Device.{Device}
+use Rattle.device.specs.declared.device.Device.{Device}
 use Rattle.network.specs.Deeds.{Deed, hand_up, transmission}
 use Rattle.network.specs.History.{Among, Sending, superframes, sendings}
 use Rattle.network.specs.Guarantee.{grant_of, simple_of, Takes, EveryFrameTakesItsTimeslot, NoTwoDevicesShareATimeslot, EverySenderIsADevice}

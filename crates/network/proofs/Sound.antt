@@ -13,9 +13,9 @@ use Rattle.repeats.specs.Laws.{BitsAlike}
 use Rattle.coordinator.specs.declared.state.Inner.{Inner}
 use Rattle.coordinator.specs.Beacons.{configuration_for}
 use Rattle.coordinator.specs.Steps.{beacon_of}
-use Rattle.device.specs.declared.state.Device.{Device}
-use Rattle.device.specs.declared.state.Fate.TheVariants as fate
-use Rattle.device.specs.declared.state.Repeat.{Repeat}
+use Rattle.device.specs.declared.device.Device.{Device}
+use Rattle.device.specs.declared.fate.Fate.TheVariants as fate
+use Rattle.device.specs.declared.repeat.Repeat.{Repeat}
 use Rattle.network.specs.Deeds.{Deed}
 use Rattle.network.specs.History.{Among, Sending, superframes, announced, learned, replies, sendings, accepted, told, sent_since, waits}
 use Rattle.network.proofs.Books.{Line, Agrees}

@@ -33,7 +33,7 @@ use Rattle.coordinator.specs.declared.state.OpenSuperframe.{OpenSuperframe}
 use Rattle.coordinator.specs.Beacons.{state_of, configuration_for}
 use Rattle.coordinator.specs.Steps as coordinator
 use Rattle.coordinator.specs.Steps.{is_online, is_managing, is_configuring, is_open, in_mode, mode_state, beacon_of, opened_as, open_answer, open_memory, begun, open_state, somebody, sending, listening, heard_from, HearsFrom, Hears, granted, gathering, hear_state, Managed, discovered, handing, requested, thanked, acknowledging, commanded, managed_by, managed_as, managing, replying, reply_memory, noted, reply_state, manage_answer, manage_memory, manage_state, ended, close_answer, close_state}
-use Rattle.device.specs.declared.state.Fate.{Fate}
+use Rattle.device.specs.declared.fate.Fate.{Fate}
 use Rattle.network.specs.Calls.{set_mode, opens, hears, hears_management, closes, takes_beacon, misses_beacon, is_offered, sends, writes_management, takes_management}
 use Rattle.network.specs.Deeds.{Deed, opening, closing, hand_up, reply, news, acceptance, transmission, taking, nothing, sent_deed, deed}
 use Rattle.network.specs.History.{Sending, superframes, announced, replies, sendings}

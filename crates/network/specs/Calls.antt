@@ -8,8 +8,8 @@ use Rattle.coordinator.specs.declared.state.Mode.{Mode}
 use Rattle.coordinator.specs.declared.state.Opened.{Opened}
 use Rattle.coordinator.specs.declared.state.OpenSuperframe.{OpenSuperframe}
 use Rattle.coordinator.specs.Steps.{mode_answer, mode_state, open_answer, open_memory, open_state, Hears, hear_state, manage_answer, manage_memory, manage_state, close_answer, close_state}
-use Rattle.device.specs.declared.state.Device.{Device}
-use Rattle.device.specs.declared.state.Fate.{Fate}
+use Rattle.device.specs.declared.device.Device.{Device}
+use Rattle.device.specs.declared.fate.Fate.{Fate}
 use Rattle.device.specs.Steps.{beacon_answer, beacon_state, missed_answer, missed_state, offer_answer, offer_state, send_answer, send_memory, send_state, write_answer, write_memory, write_state, take_answer, take_state}
 
 -- one call with its answer: what was handed over, what was answered and, where a buffer was lent, what it held before and after.

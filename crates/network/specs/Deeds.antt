@@ -1,6 +1,6 @@
 -- What calls come to, as an onlooker of the network tells it.
 use Rattle.std.specs.Prelude.{ℕ, zero, suc, List, take, Some, None, Ok, Err, Option}
-use Rattle.device.specs.declared.state.Fate.{Fate}
+use Rattle.device.specs.declared.fate.Fate.{Fate}
 use Rattle.network.specs.Calls.{Call, set_mode, opens, hears, hears_management, closes, takes_beacon, misses_beacon, is_offered, sends, writes_management, takes_management}
 
 -- what a call came to. Devices go by their places.

@@ -10,8 +10,8 @@ use Rattle.cargo.specs.declared.reading.Reading.{Reading}
 use Rattle.cargo.specs.Images.{Apart}
 use Rattle.cargo.specs.Readings.{image_of}
 use Rattle.coordinator.specs.declared.state.Mode.TheVariants as mode
-use Rattle.device.specs.declared.state.Fate.{Fate}
-use Rattle.device.specs.declared.state.Fate.TheVariants as fate
+use Rattle.device.specs.declared.fate.Fate.{Fate}
+use Rattle.device.specs.declared.fate.Fate.TheVariants as fate
 use Rattle.network.specs.Calls.{Call, set_mode, opens, hears, hears_management, closes, takes_beacon, misses_beacon, is_offered, sends, writes_management, takes_management}
 use Rattle.network.specs.History.{Telling, Arrival, accepted, told}
 use Rattle.network.specs.Runs.{Devices, Different, deeds, Run}

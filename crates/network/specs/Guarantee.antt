@@ -5,8 +5,8 @@ use Rattle.frame.specs.Messages.{data_frame, octets_of}
 use Rattle.plan.specs.declared.grant.Grant.{Grant}
 use Rattle.plan.specs.Rules.{PlanMeaning}
 use Rattle.plan.specs.Answers.{number_with}
-use Rattle.device.specs.declared.state.Device.{Device}
-use Rattle.device.specs.declared.state.Fate.TheVariants as fate
+use Rattle.device.specs.declared.device.Device.{Device}
+use Rattle.device.specs.declared.fate.Fate.TheVariants as fate
 use Rattle.coordinator.specs.Steps.{granted}
 use Rattle.network.specs.Calls.{Call}
 use Rattle.network.specs.Deeds.{Deed}

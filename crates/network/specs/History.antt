@@ -1,7 +1,7 @@
 -- What a history of deeds tells. Histories have the newest deed first.
 use Rattle.std.specs.Prelude.{◌≡◌, ℕ, suc, Bool, true, false, cond, ◌⊎◌, List, [], ◌∷◌, length, Some, None, Option, ◌==◌, nat_le}
 use Rattle.frame.specs.Octets.{bits, octet}
-use Rattle.device.specs.declared.state.Fate.{Fate}
+use Rattle.device.specs.declared.fate.Fate.{Fate}
 use Rattle.network.specs.Deeds.{Deed, opening, closing, hand_up, reply, news, acceptance, transmission, taking, nothing}
 
 -- the entry with a number, from 1 for the oldest
