@@ -1,5 +1,6 @@
 -- The test of a beacon's bitmap decides whether the bitmap fits.
-use Rattle.std.proofs.Common.{◌≡◌, ℕ, zero, suc, ◌+◌, ◌-◌, ◌*◌, ◌<◌, ◌≤◌, Bool, true, Decides, eqb, List, length, refl, inl, inr, arith}
+use Rattle.std.proofs.Common.{◌≡◌, ℕ, zero, suc, ◌+◌, ◌-◌, ◌*◌, ◌<◌, ◌≤◌, Bool, true, Decides, eqb, List, length}
+use Rattle.std.proofs.Common.{refl, inl, inr, arith}
 use Rattle.std.proofs.lemmas.Bool.{and_parts, and_from, eqb-true, eq-eqb, cases_eq, cases_lt}
 use Rattle.plan.specs.declared.grant.Numbers.{Numbers}
 use Rattle.plan.specs.Rules.{bitmap_octets}
@@ -24,19 +25,23 @@ clearing xs k zero h = refl
 clearing xs k (suc count) h =
     and_from _ _ (eq-eqb (bit xs k) 0 (h k (omega arith))) (clearing xs (suc k) count (λ j low. h j (omega arith)))
 
-pub fits_tells : (n : Numbers) (xs : List ℕ) → (bitmap_fits n xs ≡ true → Fits n xs) × (Fits n xs → bitmap_fits n xs ≡ true)
+fits_tells : (n : Numbers) (xs : List ℕ)
+    → (bitmap_fits n xs ≡ true → Fits n xs) × (Fits n xs → bitmap_fits n xs ≡ true)
 unfolding bitmap_fits
 fits_tells n xs = (
   λ e.
       let parts = and_parts (eqb (length xs) (bitmap_octets n)) _ e in
+      let first = n.timeslots - n.retransmission in
       record {
         size = eqb-true _ _ parts.0;
         padding = λ j low. elim (cases_lt j (8 * length xs)) [
-          | inl below ↦ cleared xs (n.timeslots - n.retransmission) (8 * length xs - (n.timeslots - n.retransmission)) j parts.1 (omega arith) (omega arith)
+          | inl below ↦ cleared xs first (8 * length xs - first) j parts.1 (omega arith) (omega arith)
           | inr above ↦ bit_past xs j (omega arith)
         ];
       },
-  λ fits. and_from _ _ (eq-eqb (length xs) (bitmap_octets n) fits.size) (clearing xs _ _ (λ j low. fits.padding j (omega arith))),
+  λ fits.
+      let padding = clearing xs _ _ (λ j low. fits.padding j (omega arith)) in
+      and_from _ _ (eq-eqb (length xs) (bitmap_octets n) fits.size) padding,
 )
 
 pub fits_tested : (b : Bool) (n : Numbers) (xs : List ℕ) → Decides b (Fits n xs) → b ≡ bitmap_fits n xs

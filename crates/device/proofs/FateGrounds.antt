@@ -1,5 +1,6 @@
 -- A told fate has its grounds.
-use Rattle.std.proofs.Common.{◌≡◌, ℕ, Bool, true, false, cond, not, List, is_some, Some, None, Ok, Option, Result, sym, refl, ap, ◌∙◌}
+use Rattle.std.proofs.Common.{◌≡◌, ℕ, Bool, true, false, cond, not, ltb, List, is_some, Some, None, Ok, Option}
+use Rattle.std.proofs.Common.{Result, sym, refl, ap, ◌∙◌}
 use Rattle.std.proofs.lemmas.Bool.{and_right}
 use Rattle.frame.specs.declared.faults.Fault.{Fault}
 use Rattle.frame.specs.declared.beacon.BeaconHeader.{BeaconHeader}
@@ -7,7 +8,6 @@ use Rattle.frame.specs.declared.command.Configuration.{Configuration}
 use Rattle.frame.specs.Messages.{State, online, discovery, configuration, reset}
 use Rattle.plan.specs.declared.grant.Grant.{Grant}
 use Rattle.plan.specs.declared.grant.Numbers.{Numbers}
-use Rattle.repeats.specs.BitAndRepeatTimeslots.{has_bit}
 use Rattle.repeats.specs.Bitmaps.{acknowledged}
 use Rattle.repeats.specs.Starts.{may_repeat, repeat_start}
 use Rattle.repeats.proofs.WhenRepeatsStart.{unwanted}
@@ -20,8 +20,10 @@ use Rattle.device.specs.Fates.{grounds, grounds_by, fate_by, by_room, Grounded}
 use Rattle.device.specs.Steps.{told_by, beacon_answer_by}
 
 -- what is acknowledged is not repeated
-pub no_repeat : (n : Numbers) (xs : List ℕ) (g : Grant) → acknowledged n xs g.first ≡ true → repeat_start n xs g ≡ None
-no_repeat n xs g e = unwanted n xs g (and_right (may_repeat n g) _ (and_right (has_bit n g.first) _ (ap not e)))
+no_repeat : (n : Numbers) (xs : List ℕ) (g : Grant) → acknowledged n xs g.first ≡ true → repeat_start n xs g ≡ None
+no_repeat n xs g e =
+    let no_bit = and_right (ltb n.retransmission g.first) _ (ap not e) in
+    unwanted n xs g (and_right (may_repeat n g) _ no_bit)
 
 -- an Online beacon's fate, by the bit and the room
 by_bit : (bit : Bool) (start : Option ℕ) → (bit ≡ true → start ≡ None)
@@ -41,7 +43,7 @@ in_state address c discovery h n xs = refl
 in_state address c configuration h n xs = refl
 in_state address c reset h n xs = refl
 
-pub fate_grounds : (address : ℕ) (c : Configuration) (b : Beacon) → grounds (fate_by address c b) ≡ grounds_by address c b
+fate_grounds : (address : ℕ) (c : Configuration) (b : Beacon) → grounds (fate_by address c b) ≡ grounds_by address c b
 fate_grounds address c b = in_state address c b.state b.header b.timeslots b.bitmap
 
 -- of what was sent the fate is told that the beacon gives

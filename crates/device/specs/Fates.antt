@@ -11,7 +11,8 @@ use Rattle.device.specs.Beacons.{Beacon, is_online}
 use Rattle.device.specs.Configurations.{numbers_in, grant_in}
 use Rattle.device.specs.Devices.{address_in, configuration_in, has_sent}
 
--- what gives a fate: whether an Online beacon was taken, the bit of the grant's first timeslot in it, and whether a repeat has room
+-- what gives a fate: whether an Online beacon was taken, the bit of the grant's first timeslot in it,
+-- and whether a repeat has room
 pub record Grounds : Type 0 where
   pub online : Bool
   pub bit : Bool

@@ -5,7 +5,8 @@ ghost use Rattle.device.specs.Configurations.{member_in};
 ghost use Rattle.device.specs.Devices.{address_in, phase_in, configuration_in, is_waiting, has_sent};
 ghost use Rattle.device.specs.Fates.{Grounded, Groundless};
 ghost use Rattle.device.specs.Steps.{made, beacon_answer, beacon_state, missed_answer, missed_state, offer_answer, offer_state};
-ghost use Rattle.device.specs.Steps.{send_answer, send_state, send_memory, write_answer, write_state, write_memory, take_answer, take_state};
+ghost use Rattle.device.specs.Steps.{send_answer, send_state, send_memory, take_answer, take_state};
+ghost use Rattle.device.specs.Steps.{write_answer, write_state, write_memory};
 
 use crate::beacon::beacon_in;
 use crate::fate::Fate;
@@ -17,8 +18,9 @@ use crate::sending::is_no_timeslot;
 use cargo::Cargo;
 use frame::{Configuration, Fault, Refusal, Wish};
 
-/// A device of a network, for any kind of cargo: one cargo may wait, one may have been sent in its own timeslot, and one may be
-/// about to be repeated. It allocates nothing. A refused call leaves the device and the lent buffer as they were.
+/// A device of a network, for any kind of cargo: one cargo may wait, one may have been sent in its own timeslot, and one
+/// may be about to be repeated. It allocates nothing. Where several refusals of a call apply, the one that stands first in
+/// its page is answered. A refused call leaves the device and the lent buffer as they were.
 #[derive(Drop)]
 pub struct Device<C> {
     pub(crate) address: u64,
@@ -86,12 +88,12 @@ impl<C: Cargo + Drop> Device<C> {
         self.sent.is_some()
     }
 
-    /// Takes a beacon, and tells the fate of the cargo that was sent since the last one, if any was. To be called once for each
-    /// superframe's beacon.
+    /// Takes a beacon, and tells the fate of the cargo that was sent since the last one, if any was. To be called once for
+    /// each superframe's beacon. A refused beacon is no news: its host then calls `missed`.
     ///
-    /// Refused with what `frame::read` answers to the octets; with Unwanted for a sound frame that is no beacon; once configured,
-    /// with Stranger for a beacon of another coordinator; and with Misfit for an Online one whose numbers or bitmap contradict the
-    /// configuration. A refused beacon is no news: the device is then to be told that it was `missed`.
+    /// Refused with what `frame::read` answers to the octets; with Unwanted for a sound frame that is no beacon; once
+    /// configured, with Stranger for a beacon of another coordinator, and with Misfit for an Online one whose n, N, bitmap
+    /// length or padding contradict the configuration.
     pub fn beacon(&mut self, octets: &[u8]) -> Result<Option<Fate>, Fault>
         ensures answer { result ≡ beacon_answer self.old octets.now }
         ensures state { self.new ≡ beacon_state self.old octets.now }
@@ -103,8 +105,8 @@ impl<C: Cargo + Drop> Device<C> {
         Ok(fate)
     }
 
-    /// Tells the device that the beacon of this superframe was missed: Unknown is the fate of what was sent, if anything was, and
-    /// a repeat that was due is dropped.
+    /// Tells the device that the beacon of this superframe was missed. Unknown is the fate of what was sent, if anything was,
+    /// and a repeat that was due is dropped.
     pub fn missed(&mut self) -> Option<Fate>
         ensures answer { result ≡ missed_answer self.old }
         ensures state { self.new ≡ missed_state self.old }
@@ -117,8 +119,8 @@ impl<C: Cargo + Drop> Device<C> {
 
     /// Hands over cargo, which waits for the device's timeslot.
     ///
-    /// Refused with Mode without a configuration; with Waiting where other cargo waits; and with Size where the image has more octets
-    /// than the grant carries. The cargo is then let go.
+    /// Refused with Mode without a configuration; with Waiting where other cargo waits; and with Size where the image has
+    /// more octets than the grant carries. The cargo is then let go.
     pub fn offer(&mut self, cargo: C) -> Result<(), Fault>
         ensures answer { result ≡ offer_answer C.image self.old cargo }
         ensures state { self.new ≡ offer_state C.image self.old cargo }
@@ -134,12 +136,12 @@ impl<C: Cargo + Drop> Device<C> {
         Ok(())
     }
 
-    /// Writes what the device sends in a base timeslot, 1 to N, into the buffer and answers its length in octets, 0 where it sends
-    /// nothing. Only after this superframe's beacon, an Online one, does it send: in its own timeslot, the first of its grant, the
-    /// cargo that waits, and elsewhere a repeat.
+    /// Writes what the device sends in a base timeslot, 1 to N, into the buffer and answers its length in octets, 0 where it
+    /// sends nothing. Only after this superframe's beacon, an Online one, does it send: in its own timeslot, the first of its
+    /// grant, the cargo that waits, and elsewhere a repeat.
     ///
-    /// Refused with Timeslot at that timeslot for 0, or above N of the configuration if there is one; and with Space where the buffer
-    /// is shorter than the frame.
+    /// Refused with Timeslot, at that timeslot, for 0 and above N of the configuration if there is one; and with Space where
+    /// the buffer is shorter than the frame.
     pub fn send(&mut self, timeslot: u8, buffer: &mut [u8]) -> Result<usize, Fault>
         ensures answer { result ≡ send_answer C.image self.old timeslot buffer.old }
         ensures state { self.new ≡ send_state C.image self.old timeslot buffer.old }
@@ -161,8 +163,8 @@ impl<C: Cargo + Drop> Device<C> {
         }
     }
 
-    /// Writes the device's frame for the uplink management timeslot into the buffer and answers its length in octets, 0 where the
-    /// device has nothing to say, as after a missed beacon. A configuration is acknowledged once.
+    /// Writes the device's frame for the uplink management timeslot into the buffer and answers its length in octets, 0 where
+    /// the device has nothing to say, as after a missed beacon. A configuration is acknowledged once.
     ///
     /// Refused with Space where the buffer is shorter than the frame.
     pub fn write_management(&mut self, buffer: &mut [u8]) -> Result<usize, Fault>
@@ -180,10 +182,11 @@ impl<C: Cargo + Drop> Device<C> {
         Ok(written)
     }
 
-    /// Takes a management frame of the coordinator: the acknowledgment of the device's answer to a discovery, or its configuration.
+    /// Takes a management frame of the coordinator: in Answering the acknowledgment of the device's answer to a discovery, in
+    /// Asking its configuration.
     ///
-    /// Refused with Mode in any phase but Answering and Asking, whatever the octets; with what `frame::read` answers to them; with
-    /// Unwanted for any other sound frame; with Stranger for a configuration of another device, or of another coordinator than the one
+    /// Refused with Mode in any other phase, whatever the octets; with what `frame::read` answers to them; with Unwanted for
+    /// any other sound frame; with Stranger for a configuration of another device, or of another coordinator than the one
     /// before; and with Misfit for one that breaks a rule of slot plans.
     pub fn take(&mut self, octets: &[u8]) -> Result<(), Fault>
         ensures answer { result ≡ take_answer self.old octets.now }
