@@ -6,9 +6,9 @@ use Rattle.plan.specs.declared.grant.Grant.{Grant}
 use Rattle.plan.specs.Rules.{PlanMeaning, count_of, grant_at, Holds, LiesIn, GrantKeeps, Rules, carried}
 use Rattle.plan.specs.Answers.{passing, first_grant, holding, holder_of, number_with}
 use Rattle.plan.specs.Laws.{AtMostOneHolder, AddressesDiffer, GrantWith, Names, NamesHolder, NamesAddressed, Alike}
-use Rattle.plan.specs.Decisions.{holding_decides}
-use Rattle.plan.specs.Firsts.{First, first_tells}
-use Rattle.plan.specs.Numbered.{numbered, passed, passes_there}
+use Rattle.plan.specs.TestsDecideTheRules.{holding_decides}
+use Rattle.plan.specs.LeastNumberThatPasses.{First, first_tells}
+use Rattle.plan.specs.GrantsByNumber.{numbered, passed, passes_there}
 
 module _ (m : PlanMeaning) (rules : Rules m) where
   pub at_most_one_holder : AtMostOneHolder m
@@ -28,24 +28,6 @@ module _ (m : PlanMeaning) (rules : Rules m) where
       let k = rules.own i g at in
       let n = rules.framed.numbers in
       elim k.timeslots [ inl s ↦ (omega arith, omega arith, omega arith) | inr s ↦ (omega arith, omega arith, omega arith) ]
-
-  -- a grant that begins among the uplink timeslots has all of its own there
-  pub uplink_within : (i : ℕ) (g : Grant) → grant_at m i ≡ Some g → g.first ≤ m.numbers.uplink → LiesIn (m.numbers.retransmission + 1) m.numbers.uplink g
-  uplink_within i g at up = elim (rules.own i g at).timeslots [ inl s ↦ s | inr s ↦ absurd (omega arith) ]
-
-  -- and one that begins behind them has none there
-  pub bidirectional_within : (i : ℕ) (g : Grant) → grant_at m i ≡ Some g → m.numbers.uplink < g.first → LiesIn (m.numbers.uplink + 1) m.numbers.timeslots g
-  bidirectional_within i g at past =
-      let w = (rules.own i g at).width in
-      elim (rules.own i g at).timeslots [ inl s ↦ absurd (omega arith) | inr s ↦ s ]
-
-  -- it carries an octet at least, and no more than a frame does
-  pub carries_some : (i : ℕ) (g : Grant) → grant_at m i ≡ Some g → (1 ≤ carried m.numbers.size g) × (carried m.numbers.size g ≤ 124)
-  carries_some i g at =
-      let w = (rules.own i g at).width in
-      let n = rules.framed.numbers.size in
-      let some : 1 ≤ g.width * m.numbers.size = mul-le 1 1 g.width m.numbers.size w n.0 in
-      (omega arith, omega arith)
 
   -- of two grants, one ends before the other begins
   pub disjoint : (i j : ℕ) (g h : Grant) → grant_at m i ≡ Some g → grant_at m j ≡ Some h → (i ≡ j → ⊥) → (g.first + g.width ≤ h.first) ⊎ (h.first + h.width ≤ g.first)
@@ -95,13 +77,6 @@ module _ (m : PlanMeaning) (rules : Rules m) where
   names_addressed a =
       names_the_one (λ g. eqb g.address a) (λ g. g.address ≡ a) (λ g. (eqb-true g.address a, eq-eqb g.address a))
       (λ i j g h here there e f. addresses_differ i j g h here there (inl (e ∙ sym f)))
-
-  -- a timeslot without a holder is held by no grant
-  pub none_holds : (t i : ℕ) (g : Grant) → holder_of m t ≡ None → grant_at m i ≡ Some g → Holds g t → ⊥
-  none_holds t i g none at h =
-      let e = (names_holder t i).1 (g, at, h) in
-      let z : ◌≡◌ {A = ℕ} 0 1 = cc in
-      omega arith
 
 -- plans of one meaning answer alike
 pub alike : (m o : PlanMeaning) (i t : ℕ) → m ≡ o → Alike m o i t

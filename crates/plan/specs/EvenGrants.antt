@@ -2,7 +2,7 @@
 use Rattle.std.specs.Prelude.{ℕ, ◌+◌, ◌-◌, ◌*◌, map}
 use Rattle.std.specs.List.{range_with_len}
 use Rattle.plan.specs.declared.grant.Grant.{Grant}
-use Rattle.plan.specs.declared.grant.Numbers.{Numbers}
+use Rattle.plan.specs.declared.numbers.Numbers.{Numbers}
 use Rattle.plan.specs.Rules.{PlanMeaning, plan_of}
 
 -- grant i of w timeslots each, right behind the retransmission timeslots, with addresses that count up from a and s; its numbers may pass every range

@@ -1,10 +1,10 @@
 use Rattle.std.proofs.Common.{◌≡◌, ◌≤◌, Bool, true, is_some, Some, None, Decides, sym, refl, ap, ◌∙◌, arith}
 use Rattle.std.proofs.lemmas.Bool.Decides.{not_from_Decides}
-use Rattle.plan.specs.declared.even.grants.EvenGrants.{EvenGrants}
-use Rattle.plan.specs.declared.grant.Numbers.{Numbers}
+use Rattle.plan.specs.declared.even_grants.EvenGrants.{EvenGrants}
+use Rattle.plan.specs.declared.numbers.Numbers.{Numbers}
 use Rattle.plan.specs.Rules.{Framed, NumbersKeep}
-use Rattle.plan.specs.Judged.{only_verdict, verdict_frame}
-use Rattle.plan.proofs.Evenly.{plan, even_count, even_verdict}
+use Rattle.plan.specs.VerdictsFollowTheRules.{only_verdict, verdict_frame}
+use Rattle.plan.proofs.EvenGrantsNeverClash.{plan, even_count, even_verdict}
 use Rattle.plan.proofs.even.EvenPlan.new.Goals as goal
 use Rattle.plan.proofs.even.EvenPlan.new.Goals.{then-not-keep-via-then-not-keep, then-not-keep-via-else-not-keep+then-grants-gt128}
 

@@ -2,13 +2,13 @@ use Rattle.std.proofs.Common.{◌≡◌, ℕ, ◌+◌, ◌<◌, ◌≤◌, Bool,
 use Rattle.std.proofs.lemmas.Bool.{or_left, or_right, or_from, not_from_true, not_from_false}
 use Rattle.std.proofs.lemmas.Bool.Decides.{not_from_Decides, same_from_decides}
 use Rattle.plan.specs.declared.grant.Grant.{Grant}
-use Rattle.plan.specs.declared.grant.Numbers.{Numbers}
+use Rattle.plan.specs.declared.numbers.Numbers.{Numbers}
 use Rattle.plan.specs.Rules.{plan_of, Framed, NumbersKeep, GrantKeeps}
-use Rattle.plan.specs.Places.{blank, ClashIn}
+use Rattle.plan.specs.GrantsByPlace.{blank, ClashIn}
 use Rattle.plan.specs.Verdicts.{verdict, grant_kept, clashing_before, breaking}
-use Rattle.plan.specs.Decisions.{grant_decided}
-use Rattle.plan.specs.Firsts.{none_more}
-use Rattle.plan.specs.Judged.{only_verdict, verdict_frame, verdict_grant, verdict_none, breaking_at, clashing_tells}
+use Rattle.plan.specs.TestsDecideTheRules.{grant_decided}
+use Rattle.plan.specs.LeastNumberThatPasses.{none_more}
+use Rattle.plan.specs.VerdictsFollowTheRules.{only_verdict, verdict_frame, verdict_grant, verdict_none, breaking_at, clashing_tells}
 use Rattle.plan.proofs.listed.ListedPlan.new.Goals as goal
 use Rattle.plan.proofs.listed.ListedPlan.new.Goals.{then-not-keep-via-then-not-keep, then-not-keep-via-else-not-keep+then-len-gt128, then-not-keeps-via-then-not-keeps, then-not-keeps-via-else-not-keeps+then-clashes_with_one}
 
