@@ -1,10 +1,9 @@
--- Grants that follow one another evenly never clash, so that the verdict goes by the first that breaks a rule by itself.
-use Rattle.std.proofs.Common.{◌≡◌, ℕ, ◌+◌, ◌-◌, ◌*◌, ◌/◌, ◌<◌, ◌≤◌, true, false, not, ltb, is_some, Some, None, Option, sym, refl, ap, ◌∙◌, inl, inr, mul-le-mul_right, add-mul, one-mul, arith}
-use Rattle.std.specs.Bool.{then_some}
+-- Grants that follow one another evenly never clash, so that the verdict goes by the first that breaks a rule by
+-- itself.
+use Rattle.std.proofs.Common.{◌≡◌, ℕ, ◌+◌, ◌-◌, ◌*◌, ◌<◌, ◌≤◌, false, not, is_some, Some, Option, sym, refl, ap, ◌∙◌, inl, inr, mul-le-mul_right, add-mul, one-mul, arith}
 use Rattle.std.specs.Option.{option_map}
-use Rattle.std.proofs.lemmas.Nat.{div-add-mod', mod_below}
 use Rattle.std.proofs.lemmas.List.FromFn.{length-map-range_with_len, get_or-map-range_with_len}
-use Rattle.std.proofs.lemmas.Bool.{cases_Bool, cases_lt, lt-ltb, le-ltb}
+use Rattle.std.proofs.lemmas.Bool.{cases_Bool}
 use Rattle.frame.specs.declared.faults.Refusal.TheVariants as refusal
 use Rattle.frame.specs.Refusals.{fault}
 use Rattle.plan.specs.declared.even_grants.EvenGrants.{EvenGrants}
@@ -12,11 +11,11 @@ use Rattle.plan.specs.declared.grant.Grant.{Grant}
 use Rattle.plan.specs.declared.numbers.Numbers.{Numbers}
 use Rattle.plan.specs.Rules.{PlanMeaning, count_of, grant_at, Clash, GrantKeeps, Framed, Rules}
 use Rattle.plan.specs.GrantsByPlace.{blank}
-use Rattle.plan.specs.Answers.{first_of, passing, holding, holder_of}
+use Rattle.plan.specs.Answers.{first_of, passing}
 use Rattle.plan.specs.Verdicts.{grant_kept, clashing, clashing_before, breaking, verdict}
 use Rattle.plan.specs.EvenGrants.{even_grant, even_plan}
-use Rattle.plan.specs.TestsDecideTheRules.{held_now, held_later, held_before, grant_decided, clash_decided}
-use Rattle.plan.specs.LeastNumberThatPasses.{first_found, first_none, first_alike}
+use Rattle.plan.specs.TestsDecideTheRules.{grant_decided, clash_decided}
+use Rattle.plan.specs.LeastNumberThatPasses.{first_none, first_alike}
 use Rattle.plan.specs.VerdictsFollowTheRules.{framed_verdict}
 use Rattle.plan.specs.GrantsByNumber.{a_grant_at, passes_there}
 
@@ -42,7 +41,8 @@ module _ (ns : Numbers) (gs : EvenGrants) where
   pub even_at : (i : ℕ) → 1 ≤ i → i ≤ gs.count → grant_at plan i ≡ Some (nth i)
   even_at i low high =
       let c = even_count in
-      a_grant_at plan i blank low (omega arith) ∙ ap Some (get_or-map-range_with_len nth 1 gs.count (i - 1) i blank (omega arith) (omega arith))
+      a_grant_at plan i blank low (omega arith)
+      ∙ ap Some (get_or-map-range_with_len nth 1 gs.count (i - 1) i blank (omega arith) (omega arith))
 
   -- each grant of a lawful plan keeps its rules
   pub even_keeps : Rules plan → (i : ℕ) → 1 ≤ i → i ≤ gs.count → GrantKeeps ns (nth i)
@@ -58,7 +58,8 @@ module _ (ns : Numbers) (gs : EvenGrants) where
   apart_before : (i : ℕ) → i ≤ gs.count → 1 ≤ gs.width → clashing_before plan.grants (i - 1) (nth i) ≡ false
   unfolding clashing_before
   apart_before i high some =
-      ap is_some (first_none (λ j. passing (λ h. clashing h (nth i)) (grant_at plan j)) (i - 1) (i - 1) clear (omega arith))
+      ap is_some (first_none (λ j. passing (λ h. clashing h (nth i)) (grant_at plan j)) (i - 1)
+      (i - 1) clear (omega arith))
     where
       clear : (j : ℕ) → 1 ≤ j → j ≤ i - 1 → passing (λ h. clashing h (nth i)) (grant_at plan j) ≡ false
       clear j low below =
@@ -81,7 +82,10 @@ module _ (ns : Numbers) (gs : EvenGrants) where
       ]
 
   -- the verdict goes by the first grant that breaks a rule by itself
-  pub even_verdict : (r : Option ℕ) → Framed plan → r ≡ first_of (λ i. not (grant_kept ns (nth i))) gs.count → verdict plan ≡ option_map (fault refusal.Plan) r
+  pub even_verdict : (r : Option ℕ) → Framed plan → r ≡ first_of (λ i. not (grant_kept ns (nth i))) gs.count
+      → verdict plan ≡ option_map (fault refusal.Plan) r
   even_verdict r framed e =
       let c = even_count in
-      framed_verdict plan r framed (ap (first_of (breaking plan)) c ∙ first_alike (breaking plan) (λ i. not (grant_kept ns (nth i))) gs.count even_breaking ∙ sym e)
+      framed_verdict plan r framed
+      (ap (first_of (breaking plan)) c
+      ∙ first_alike (breaking plan) (λ i. not (grant_kept ns (nth i))) gs.count even_breaking ∙ sym e)

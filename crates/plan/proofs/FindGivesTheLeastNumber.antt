@@ -16,7 +16,10 @@ at_place : (o : Option ℕ) (x : ℕ) → option_map (λ y. y) o ≡ Some x → 
 at_place None x e = e
 at_place (Some y) x e = e
 
-module _ {F : Type 0} {g : Mut F (Bor ℕ × Unit {0}) Bool} (s : RangeInclusive ℕ) (f : F) (test : ℕ → Bool) (n : ℕ) (start : range_inclusive_start s ≡ 1) (end : range_inclusive_end s ≡ n) (fresh : range_inclusive_exhausted s ≡ false) (tells : (x : ℕ) (b : Bool) (q : F) → CalledAt g f x b q → (q ≡ f) × (b ≡ test x)) where
+module _ {F : Type 0} {g : Mut F (Bor ℕ × Unit {0}) Bool} (s : RangeInclusive ℕ) (f : F) (test : ℕ → Bool) (n : ℕ)
+    (start : range_inclusive_start s ≡ 1) (end : range_inclusive_end s ≡ n)
+    (fresh : range_inclusive_exhausted s ≡ false)
+    (tells : (x : ℕ) (b : Bool) (q : F) → CalledAt g f x b q → (q ≡ f) × (b ≡ test x)) where
   keeps : CallKeepsClosure g f
   keeps a r q k = (tells a.0.now r q (record { shown = a.0; shows = refl; called = k })).0
 
@@ -32,7 +35,9 @@ module _ {F : Type 0} {g : Mut F (Bor ℕ × Unit {0}) Bool} (s : RangeInclusive
   placed : (u : Run nat_range_inclusive_steps) → u.from ≡ s → (k i : ℕ) → i ≡ k + 1 → k < u.len → u.at k ≡ Some i
   placed u e k i z within = at_place _ i ((counts u e).3 k within ∙ ap Some (omega arith))
 
-  first : (r : Option ℕ) → SomeRun nat_range_inclusive_steps s (λ u. MatchOption r (IsTrue u.whole × NoItemPasses u g f) (EndsAtFirstPassing u g f)) → First test n r
+  first : (r : Option ℕ)
+      → SomeRun nat_range_inclusive_steps s
+      (λ u. MatchOption r (IsTrue u.whole × NoItemPasses u g f) (EndsAtFirstPassing u g f)) → First test n r
   first None run = λ i low high.
       let u = run.0 in
       let long = (counts u run.1).1 run.2.0 in
@@ -56,5 +61,7 @@ module _ {F : Type 0} {g : Mut F (Bor ℕ × Unit {0}) Bool} (s : RangeInclusive
       )
 
   -- the least number that passes, or none
-  pub first_by_find : (r : Option ℕ) → SomeRun nat_range_inclusive_steps s (λ u. MatchOption r (IsTrue u.whole × NoItemPasses u g f) (EndsAtFirstPassing u g f)) → r ≡ first_of test n
+  pub first_by_find : (r : Option ℕ)
+      → SomeRun nat_range_inclusive_steps s
+      (λ u. MatchOption r (IsTrue u.whole × NoItemPasses u g f) (EndsAtFirstPassing u g f)) → r ≡ first_of test n
   first_by_find r run = sym (first_is test n r (first r run))

@@ -1,24 +1,15 @@
 -- Which grant holds a timeslot in a plan of grants that follow one another evenly.
-use Rattle.std.proofs.Common.{◌≡◌, ℕ, ◌+◌, ◌-◌, ◌*◌, ◌/◌, ◌<◌, ◌≤◌, true, false, not, ltb, is_some, Some, None, Option, sym, refl, ap, ◌∙◌, inl, inr, mul-le-mul_right, add-mul, one-mul, arith}
+use Rattle.std.proofs.Common.{◌≡◌, ℕ, ◌+◌, ◌-◌, ◌*◌, ◌/◌, ◌<◌, ◌≤◌, true, false, ltb, Some, None, sym, ap, ◌∙◌, inl, inr, mul-le-mul_right, arith}
 use Rattle.std.specs.Bool.{then_some}
-use Rattle.std.specs.Option.{option_map}
 use Rattle.std.proofs.lemmas.Nat.{div-add-mod', mod_below}
-use Rattle.std.proofs.lemmas.List.FromFn.{length-map-range_with_len, get_or-map-range_with_len}
-use Rattle.std.proofs.lemmas.Bool.{cases_Bool, cases_lt, lt-ltb, le-ltb}
-use Rattle.frame.specs.declared.faults.Refusal.TheVariants as refusal
-use Rattle.frame.specs.Refusals.{fault}
+use Rattle.std.proofs.lemmas.Bool.{cases_lt, lt-ltb, le-ltb}
 use Rattle.plan.specs.declared.even_grants.EvenGrants.{EvenGrants}
-use Rattle.plan.specs.declared.grant.Grant.{Grant}
 use Rattle.plan.specs.declared.numbers.Numbers.{Numbers}
-use Rattle.plan.specs.Rules.{PlanMeaning, count_of, grant_at, Clash, GrantKeeps, Framed, Rules}
-use Rattle.plan.specs.GrantsByPlace.{blank}
-use Rattle.plan.specs.Answers.{first_of, passing, holding, holder_of}
-use Rattle.plan.specs.Verdicts.{grant_kept, clashing, clashing_before, breaking, verdict}
-use Rattle.plan.specs.EvenGrants.{even_grant, even_plan}
-use Rattle.plan.specs.TestsDecideTheRules.{held_now, held_later, held_before, grant_decided, clash_decided}
-use Rattle.plan.specs.LeastNumberThatPasses.{first_found, first_none, first_alike}
-use Rattle.plan.specs.VerdictsFollowTheRules.{framed_verdict}
-use Rattle.plan.specs.GrantsByNumber.{a_grant_at, passes_there}
+use Rattle.plan.specs.Rules.{count_of, grant_at}
+use Rattle.plan.specs.Answers.{passing, holding, holder_of}
+use Rattle.plan.specs.TestsDecideTheRules.{held_now, held_later, held_before}
+use Rattle.plan.specs.LeastNumberThatPasses.{first_found, first_none}
+use Rattle.plan.specs.GrantsByNumber.{passes_there}
 use Rattle.plan.proofs.EvenGrantsNeverClash.{next_width, plan, nth, even_count, even_at}
 
 module _ (ns : Numbers) (gs : EvenGrants) where
@@ -30,7 +21,8 @@ module _ (ns : Numbers) (gs : EvenGrants) where
   unfolding holder_of
   held_in_none t h =
       let c = even_count ns gs in
-      first_none (λ i. passing (holding t) (grant_at (plan ns gs) i)) (count_of (plan ns gs)) 0 (λ i low high. absurd (omega arith)) (omega arith)
+      first_none (λ i. passing (holding t) (grant_at (plan ns gs) i))
+      (count_of (plan ns gs)) 0 (λ i low high. absurd (omega arith)) (omega arith)
 
   -- no grant begins before the retransmission timeslots end
   pub held_by_none : (t : ℕ) → t ≤ ns.retransmission → holder_of (plan ns gs) t ≡ None

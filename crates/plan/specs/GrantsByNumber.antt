@@ -11,11 +11,14 @@ use Rattle.plan.specs.GrantsByPlace.{blank}
 -- no grant has the number 0, or one past the count
 pub no_grant_at : (m : PlanMeaning) (i : ℕ) → (i ≡ 0) ⊎ (count_of m < i) → grant_at m i ≡ None
 no_grant_at m i (inl z) = cond-true _ _ _ (eq-eqb i 0 z)
-no_grant_at m i (inr far) = cond-false _ _ _ (ne_eqb i 0 (λ z. omega arith)) ∙ slice_get_past m.grants (i - 1) (omega arith)
+no_grant_at m i (inr far) =
+    cond-false _ _ _ (ne_eqb i 0 (λ z. omega arith)) ∙ slice_get_past m.grants (i - 1) (omega arith)
 
 -- every other number has one, which stands in the list
-pub a_grant_at : (m : PlanMeaning) (i : ℕ) (d : Grant) → 1 ≤ i → i ≤ count_of m → grant_at m i ≡ Some (slice_index_or m.grants (i - 1) d)
-a_grant_at m i d low high = cond-false _ _ _ (ne_eqb i 0 (λ z. omega arith)) ∙ slice_get-get_or m.grants (i - 1) d (omega arith)
+pub a_grant_at : (m : PlanMeaning) (i : ℕ) (d : Grant) → 1 ≤ i → i ≤ count_of m
+    → grant_at m i ≡ Some (slice_index_or m.grants (i - 1) d)
+a_grant_at m i d low high =
+    cond-false _ _ _ (ne_eqb i 0 (λ z. omega arith)) ∙ slice_get-get_or m.grants (i - 1) d (omega arith)
 
 -- a grant's number is at least 1, and at most how many there are
 pub numbered : (m : PlanMeaning) (i : ℕ) (g : Grant) → grant_at m i ≡ Some g → (1 ≤ i) × (i ≤ count_of m)
@@ -23,7 +26,8 @@ numbered m i g e =
     elim (cases_order i 0) [
       | inl z ↦ never (no_grant_at m i (inl z))
       | inr (inl h) ↦ absurd (omega arith)
-      | inr (inr h) ↦ elim (cases_lt (count_of m) i) [ inl far ↦ never (no_grant_at m i (inr far)) | inr near ↦ (h, near) ]
+      | inr (inr h) ↦ elim
+          (cases_lt (count_of m) i) [ inl far ↦ never (no_grant_at m i (inr far)) | inr near ↦ (h, near) ]
     ]
   where
     never : grant_at m i ≡ None → (1 ≤ i) × (i ≤ count_of m)
@@ -38,23 +42,29 @@ pub passes_there : (p : Grant → Bool) (o : Option Grant) (g : Grant) → o ≡
 passes_there p o g e = ap (passing p) e
 
 -- the same by the place in the list
-pub by_place : (gs : List Grant) (i : ℕ) → numbered_in gs i ≡ cond (nat_le 1 i && nat_le i (length gs)) (Some (slice_index_or gs (i - 1) blank)) None
+pub by_place : (gs : List Grant) (i : ℕ)
+    → numbered_in gs i ≡ cond (nat_le 1 i && nat_le i (length gs)) (Some (slice_index_or gs (i - 1) blank)) None
 by_place gs i =
     elim (cases_lt i 1) [
       | inl none ↦ cond-true _ _ _ (eq-eqb i 0 (omega arith)) ∙ sym (cond-false _ _ _ (and_left _ _ (lt-leb 1 i none)))
       | inr low ↦
           let some = ne_eqb i 0 (λ z. omega arith) in
           elim (cases_lt (length gs) i) [
-            | inl far ↦ cond-false _ _ _ some ∙ slice_get_past gs (i - 1) (omega arith) ∙ sym (cond-false _ _ _ (and_right _ _ (lt-leb i (length gs) far)))
-            | inr near ↦ cond-false _ _ _ some ∙ slice_get-get_or gs (i - 1) blank (omega arith) ∙ sym (cond-true _ _ _ (and_from _ _ (le-leb 1 i low) (le-leb i (length gs) near)))
+            | inl far ↦ cond-false _ _ _ some ∙ slice_get_past gs (i - 1) (omega arith)
+                ∙ sym (cond-false _ _ _ (and_right _ _ (lt-leb i (length gs) far)))
+            | inr near ↦ cond-false _ _ _ some ∙ slice_get-get_or gs (i - 1) blank (omega arith)
+                ∙ sym (cond-true _ _ _ (and_from _ _ (le-leb 1 i low) (le-leb i (length gs) near)))
           ]
     ]
 
 -- a test of the grant with a number, and of the one that stands behind k others
-pub test_number : (gs : List Grant) (p : Grant → Bool) (i : ℕ) → 1 ≤ i → i ≤ length gs → passing p (numbered_in gs i) ≡ p (slice_index_or gs (i - 1) blank)
-test_number gs p i low high = ap (passing p) (cond-false _ _ _ (ne_eqb i 0 (λ e. omega arith)) ∙ slice_get-get_or gs (i - 1) blank (omega arith))
+pub test_number : (gs : List Grant) (p : Grant → Bool) (i : ℕ) → 1 ≤ i → i ≤ length gs
+    → passing p (numbered_in gs i) ≡ p (slice_index_or gs (i - 1) blank)
+test_number gs p i low high =
+    ap (passing p) (cond-false _ _ _ (ne_eqb i 0 (λ e. omega arith)) ∙ slice_get-get_or gs (i - 1) blank (omega arith))
 
-pub test_at : (gs : List Grant) (p : Grant → Bool) (k : ℕ) → k < length gs → passing p (numbered_in gs (k + 1)) ≡ p (slice_index_or gs k blank)
+pub test_at : (gs : List Grant) (p : Grant → Bool) (k : ℕ) → k < length gs
+    → passing p (numbered_in gs (k + 1)) ≡ p (slice_index_or gs k blank)
 test_at gs p k h =
     let z : k + 1 - 1 ≡ k = omega arith in
     test_number gs p (k + 1) (omega arith) (omega arith) ∙ ap (λ (n : ℕ). p (slice_index_or gs n blank)) z

@@ -29,7 +29,8 @@ pub grant_decided : (n : Numbers) (g : Grant) → Decides (grant_kept n g) (Gran
 unfolding grant_kept
 grant_decided n g = (λ e. grind (arith, nat_tests), λ h. grind (arith, nat_tests))
 
-sharing : (g h : Grant) → nat_lt (max g.first h.first) (min (g.first + g.width) (h.first + h.width)) ≡ true → ShareTimeslot g h
+sharing : (g h : Grant) → nat_lt (max g.first h.first) (min (g.first + g.width) (h.first + h.width)) ≡ true
+    → ShareTimeslot g h
 sharing g h e =
     let k = ltb-true _ _ e in
     (max g.first h.first, (omega arith, omega arith), (omega arith, omega arith))

@@ -31,7 +31,8 @@ unfolding breaking clashing_before
 kept_so_far m i e g at =
     let parts = or_parts _ _ (sym (passes_there _ _ _ at) ∙ e) in
     let none = is_missing _ parts.1 in
-    let tells_none = subst (First (λ j. passing (λ h. clashing h g) (grant_at m j)) (i - 1)) none (first_tells _ (i - 1)) in (
+    let tells_none =
+    subst (First (λ j. passing (λ h. clashing h g) (grant_at m j)) (i - 1)) none (first_tells _ (i - 1)) in (
       (grant_decided m.numbers g).0 (not-false _ parts.0),
       λ j h below there clash.
           let n = numbered m j h there in
@@ -81,7 +82,8 @@ framed_decided m e =
 pub framed_tested : (m : PlanMeaning) → Framed m → (numbers_kept m.numbers && nat_le (count_of m) 128) ≡ true
 framed_tested m f = and_from _ _ ((numbers_decided m.numbers).1 f.numbers) (le-leb _ _ f.few)
 
-said_of : (m : PlanMeaning) (o : Option ℕ) → Framed m → First (breaking m) (count_of m) o → Says m (option_map (fault refusal.Plan) o)
+said_of : (m : PlanMeaning) (o : Option ℕ) → Framed m → First (breaking m) (count_of m) o
+    → Says m (option_map (fault refusal.Plan) o)
 unfolding breaking
 said_of m None framed f = all_keep m framed (λ i low high. kept_so_far m i (f i low high))
 said_of m (Some zero) framed f = absurd (omega arith)
@@ -152,27 +154,35 @@ verdict_frame m broken =
       | inr e ↦ cond-false _ _ _ e
     ]
 
-pub framed_verdict : (m : PlanMeaning) (o : Option ℕ) → Framed m → first_of (breaking m) (count_of m) ≡ o → verdict m ≡ option_map (fault refusal.Plan) o
+pub framed_verdict : (m : PlanMeaning) (o : Option ℕ) → Framed m → first_of (breaking m) (count_of m) ≡ o
+    → verdict m ≡ option_map (fault refusal.Plan) o
 unfolding verdict
 framed_verdict m o framed e = cond-true _ _ _ (framed_tested m framed) ∙ ap (option_map (fault refusal.Plan)) e
 
-pub verdict_grant : (m : PlanMeaning) (k : ℕ) → Framed m → ((i : ℕ) → 1 ≤ i → i ≤ k → breaking m i ≡ false) → k < count_of m → breaking m (k + 1) ≡ true → verdict m ≡ Some (fault refusal.Plan (k + 1))
-verdict_grant m k framed before below e = framed_verdict m (Some (k + 1)) framed (first_found (breaking m) (count_of m) k before below e)
+pub verdict_grant : (m : PlanMeaning) (k : ℕ) → Framed m → ((i : ℕ) → 1 ≤ i → i ≤ k → breaking m i ≡ false)
+    → k < count_of m → breaking m (k + 1) ≡ true → verdict m ≡ Some (fault refusal.Plan (k + 1))
+verdict_grant m k framed before below e =
+    framed_verdict m (Some (k + 1)) framed (first_found (breaking m) (count_of m) k before below e)
 
-pub verdict_none : (m : PlanMeaning) (k : ℕ) → Framed m → ((i : ℕ) → 1 ≤ i → i ≤ k → breaking m i ≡ false) → count_of m ≤ k → verdict m ≡ None
+pub verdict_none : (m : PlanMeaning) (k : ℕ) → Framed m → ((i : ℕ) → 1 ≤ i → i ≤ k → breaking m i ≡ false)
+    → count_of m ≤ k → verdict m ≡ None
 verdict_none m k framed before past = framed_verdict m None framed (first_none (breaking m) (count_of m) k before past)
 
 -- whether the grant at an index of the list breaks a rule
-pub breaking_at : (ns : Numbers) (gs : List Grant) (k : ℕ) (g : Grant) → k < length gs → slice_index_or gs k blank ≡ g → breaking (plan_of ns gs) (k + 1) ≡ (not (grant_kept ns g) || clashing_before gs k g)
+pub breaking_at : (ns : Numbers) (gs : List Grant) (k : ℕ) (g : Grant) → k < length gs
+    → slice_index_or gs k blank ≡ g
+    → breaking (plan_of ns gs) (k + 1) ≡ (not (grant_kept ns g) || clashing_before gs k g)
 unfolding breaking
 breaking_at ns gs k g below e =
     let z : k + 1 - 1 ≡ k = omega arith in
     test_at gs (λ g. not (grant_kept ns g) || clashing_before gs (k + 1 - 1) g) k below
-    ∙ ap (λ (n : ℕ). not (grant_kept ns (slice_index_or gs k blank)) || clashing_before gs n (slice_index_or gs k blank)) z
+    ∙ ap (λ (n : ℕ). not (grant_kept ns (slice_index_or gs k blank)) || clashing_before gs n
+    (slice_index_or gs k blank)) z
     ∙ ap (λ (g : Grant). not (grant_kept ns g) || clashing_before gs k g) e
 
 -- whether one of the grants before it clashes with a grant, by their places
-pub clashing_tells : (gs : List Grant) (n : ℕ) (g : Grant) → n ≤ length gs → Decides (clashing_before gs n g) (ClashIn (take n gs) g)
+pub clashing_tells : (gs : List Grant) (n : ℕ) (g : Grant) → n ≤ length gs
+    → Decides (clashing_before gs n g) (ClashIn (take n gs) g)
 unfolding clashing_before
 clashing_tells gs n g room = (
   λ e.
@@ -180,7 +190,8 @@ clashing_tells gs n g room = (
       let there = is_there _ e in
       let f = subst (First p n) there.1 (first_tells p n) in
       let k = there.0 in
-      let hit = (clash_decided (slice_index_or gs (k - 1) blank) g).0 (sym (test_number gs (λ h. clashing h g) k f.0 (omega arith)) ∙ f.2) in
+      let hit = (clash_decided (slice_index_or gs (k - 1) blank) g).0
+      (sym (test_number gs (λ h. clashing h g) k f.0 (omega arith)) ∙ f.2) in
       (k - 1, omega arith, subst (λ (h : Grant). Clash h g) (sym (get_or-take n gs (k - 1) blank (omega arith))) hit),
   λ c.
       elim (cases_Bool (is_some (first_of p n))) [
@@ -189,7 +200,9 @@ clashing_tells gs n g room = (
             let r = reach in
             let none = subst (First p n) (is_missing _ e) (first_tells p n) in
             let hit = subst (λ (h : Grant). Clash h g) (get_or-take n gs c.0 blank (omega arith)) c.2 in
-            absurd (both_ways _ (sym (test_at gs (λ h. clashing h g) c.0 (omega arith)) ∙ none (c.0 + 1) (omega arith) (omega arith)) ((clash_decided (slice_index_or gs c.0 blank) g).1 hit))
+            absurd (both_ways _
+            (sym (test_at gs (λ h. clashing h g) c.0 (omega arith))
+            ∙ none (c.0 + 1) (omega arith) (omega arith)) ((clash_decided (slice_index_or gs c.0 blank) g).1 hit))
       ],
 )
   where

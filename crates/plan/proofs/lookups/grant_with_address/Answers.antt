@@ -11,7 +11,9 @@ unfolding number_with
 returns g c =
     let m = g.P.SlotPlan.meaning c.args.plan.now in
     let lawful = g.met.P.SlotPlan.keeps c.args.plan.now in
-    let found = first_by_find g.P.SlotPlan.meaning m _ (λ x. eqb x.address c.args.address) (λ x b q k. search rules) c.of.result c.find.result c.find.new.self (ap g.P.SlotPlan.meaning c.of.ensures.plan) c.of.ensures.given c.find.ensures.ran in
+    let found = first_by_find g.P.SlotPlan.meaning m _ (λ x. eqb x.address c.args.address)
+    (λ x b q k. search rules) c.of.result c.find.result c.find.new.self
+    (ap g.P.SlotPlan.meaning c.of.ensures.plan) c.of.ensures.given c.find.ensures.ran in
     let number : c.map.result ≡ option_map (λ x. x.0) c.find.result = search rules in
     let e : c.map.result ≡ number_with m c.args.address = number ∙ found in
     record {

@@ -35,7 +35,10 @@ returns-in_err-checked_div c =
 pub returns : goal.returns
 returns c =
     let p = c.args.self.now in
-    let behind : c.in_ok-behind.behind ≡ c.args.t - p.numbers.retransmission - 1 = omega (arith, c.in_ok-checked_sub.ensures, c.in_ok-behind.ensures) in
+    let behind : c.in_ok-behind.behind ≡ c.args.t - p.numbers.retransmission - 1 =
+    omega (arith, c.in_ok-checked_sub.ensures, c.in_ok-behind.ensures) in
     let wide = c.in_ok-checked_div.ensures in
     let before = c.from-before.ensures ∙ wide.1 ∙ ap (λ (n : ℕ). n / p.grants.width) behind in
-    c.then_some.ensures ∙ held_where p.numbers p.grants c.args.t wide.0 (omega (arith, c.in_ok-checked_sub.ensures, c.in_ok-behind.ensures)) c.from-before.result before
+    c.then_some.ensures
+    ∙ held_where p.numbers p.grants c.args.t wide.0
+    (omega (arith, c.in_ok-checked_sub.ensures, c.in_ok-behind.ensures)) c.from-before.result before

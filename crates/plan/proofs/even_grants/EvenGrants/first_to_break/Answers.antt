@@ -10,5 +10,7 @@ pub returns : goal.returns
 returns c =
     let ns = c.args.numbers in
     let g = c.args.self in
-    first_by_find c.new.result _ (λ i. not (grant_kept ns (even_grant ns g.width g.address g.simple i))) g.count c.new.ensures.start c.new.ensures.end c.new.ensures.exhausted
+    first_by_find c.new.result _
+    (λ i. not (grant_kept ns
+    (even_grant ns g.width g.address g.simple i))) g.count c.new.ensures.start c.new.ensures.end c.new.ensures.exhausted
     (λ x b q k. search (rules, same_from_decides, grant_decided)) c.find.result c.find.ensures.runs
