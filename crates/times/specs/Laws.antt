@@ -1,7 +1,7 @@
 -- Laws of the slot times.
 use Rattle.std.specs.Prelude.{◌≡◌, ℕ, ◌+◌, ◌<◌, ◌≤◌, Some}
 use Rattle.plan.specs.declared.grant.Grant.{Grant}
-use Rattle.plan.specs.declared.grant.Numbers.{Numbers}
+use Rattle.plan.specs.declared.numbers.Numbers.{Numbers}
 use Rattle.plan.specs.Rules.{PlanMeaning, grant_at, carried}
 use Rattle.times.specs.Symbols.{beacon_symbols, frame_symbols, span_of, superframe_symbols}
 

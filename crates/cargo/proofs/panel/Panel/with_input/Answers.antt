@@ -2,7 +2,7 @@ use Rattle.std.proofs.Common.{◌≡◌, ◌*◌, ◌%◌, ◌^◌, ◌<◌, set
 use lib.Bits.{bit_xor}
 use Rattle.std.proofs.lemmas.Nat.{one_shl, xor_lt, pow_below}
 use Rattle.cargo.specs.Inputs.{inputs_in}
-use Rattle.cargo.specs.InputsLemmas.{length_inputs_in, other_input}
+use Rattle.cargo.specs.InputsAreBitsOfANumber.{length_inputs_in, other_input}
 use Rattle.cargo.proofs.panel.Panel.with_input.Goals as goal
 
 pub invariant_of-result : goal.invariant_of-result
