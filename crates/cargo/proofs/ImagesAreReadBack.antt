@@ -12,9 +12,12 @@ module _ {C : Type 0} (image : C → List ℕ) (apart : Apart image) where
   read_is xs (Ok w) h v e = ap Ok (apart w v (h ∙ sym e))
   read_is xs (Err f) h v e = absurd (h.1 v e)
 
-  pub delivered : ((v : C) → length (image v) ≤ 124) → (xs : List ℕ) (r : Result C Fault) → Receives image xs r → Delivered image xs r
+  pub delivered : ((v : C) → length (image v) ≤ 124) → (xs : List ℕ) (r : Result C Fault) → Receives image xs r
+      → Delivered image xs r
   delivered short xs r h v e =
       let s = short v in
       let whole : Receives image (68 ∷ image v) r = subst (λ (l : List ℕ). Receives image l r) e h in
-      let payload : Reads image (image v) r = subst (λ (t : Result Told Fault). Taken image t r) (reads_back (data_frame (image v)) tt (omega arith)) whole in
+      let payload : Reads image (image v) r =
+      subst (λ (t : Result Told Fault). Taken image t r)
+      (reads_back (data_frame (image v)) tt (omega arith)) whole in
       read_is (image v) r payload v refl

@@ -33,26 +33,32 @@ image_parts p =
 count_from : (p : Panel) (count : ℕ) (xs : List ℕ) → image_of p ≡ count ∷ xs → p.count ≡ count
 count_from p count xs e = ap (λ (l : List ℕ). octet l 0) (sym (image_is p) ∙ e)
 
-octets_from : (p : Panel) (count : ℕ) (xs : List ℕ) → image_of p ≡ count ∷ xs → little (octets_for p.count) p.inputs ≡ xs
+octets_from : (p : Panel) (count : ℕ) (xs : List ℕ) → image_of p ≡ count ∷ xs
+    → little (octets_for p.count) p.inputs ≡ xs
 octets_from p count xs e = ap (drop 1) (sym (image_is p) ∙ e)
 
 number_from : (p : Panel) (count : ℕ) (xs : List ℕ) → image_of p ≡ count ∷ xs → p.inputs ≡ value xs
-number_from p count xs e = sym (value_little (octets_for p.count) p.inputs (fits_octets p.count p.inputs p.unused)) ∙ ap value (octets_from p count xs e)
+number_from p count xs e =
+    sym (value_little (octets_for p.count) p.inputs (fits_octets p.count p.inputs p.unused))
+    ∙ ap value (octets_from p count xs e)
 
 -- octets that are too few or too many
 pub not_sized : (count : ℕ) (xs : List ℕ) → (length xs ≢ octets_for count) → ImagesNone (count ∷ xs)
 not_sized count xs h p e =
-    h (sym (ap length (octets_from p count xs e)) ∙ length-little (octets_for p.count) p.inputs ∙ ap octets_for (count_from p count xs e))
+    h (sym (ap length (octets_from p count xs e)) ∙ length-little (octets_for p.count) p.inputs
+    ∙ ap octets_for (count_from p count xs e))
 
 -- octets with a bit set that stands for no input
-pub not_unused : (count n : ℕ) (xs : List ℕ) → little (length xs) n ≡ xs → n < 256 ^ length xs → 2 ^ count ≤ n → ImagesNone (count ∷ xs)
+pub not_unused : (count n : ℕ) (xs : List ℕ) → little (length xs) n ≡ xs → n < 256 ^ length xs → 2 ^ count ≤ n
+    → ImagesNone (count ∷ xs)
 not_unused count n xs h below large p e =
     let same : p.inputs ≡ n = number_from p count xs e ∙ sym (ap value h) ∙ value_little (length xs) n below in
     let small : p.inputs < 2 ^ count = subst (λ (c : ℕ). p.inputs < 2 ^ c) (count_from p count xs e) p.unused in
     omega arith
 
 -- octets of the right number, with no such bit
-pub sized : (count n : ℕ) (xs : List ℕ) → length xs ≡ octets_for count → little (length xs) n ≡ xs → n < 2 ^ count → panel_image (inputs_in count n) ≡ count ∷ xs
+pub sized : (count n : ℕ) (xs : List ℕ) → length xs ≡ octets_for count → little (length xs) n ≡ xs → n < 2 ^ count
+    → panel_image (inputs_in count n) ≡ count ∷ xs
 sized count n xs l h small =
     image_little count n small ∙ ap (λ (l : List ℕ). count ∷ l) (ap (λ (w : ℕ). little w n) (sym l) ∙ h)
 

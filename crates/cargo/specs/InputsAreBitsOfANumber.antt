@@ -1,11 +1,10 @@
 -- Inputs as bits of a number.
-use Rattle.std.specs.Prelude.{◌≡◌, ℕ, zero, suc, ◌+◌, ◌*◌, ◌/◌, ◌%◌, ◌^◌, ◌<◌, ◌≤◌, Bool, true, false, not, List, [], ◌∷◌, ◌++◌, length, take, drop, set, ◌==◌, bit_or, bit_xor, nat_lt, slice_index_or, slice_set, refl}
+use Rattle.std.specs.Prelude.{◌≡◌, ℕ, zero, suc, ◌+◌, ◌*◌, ◌/◌, ◌%◌, ◌^◌, ◌<◌, ◌≤◌, Bool, true, false, not, List, [], ◌∷◌, length, take, drop, set, ◌==◌, bit_xor, nat_lt, slice_index_or, slice_set, refl}
 use Rattle.std.proofs.Common.{sym, ap, ◌∙◌, inl, inr, pow-suc, div-one, mul_assoc, arith}
 use Rattle.std.specs.Bool.{beq}
 use Rattle.std.proofs.Math.Nat.{pow-succ', div-div-eq-div-mul, div-eq_of_lt}
 use Rattle.std.specs.Int.Bits.{xor_zero_r}
-use Rattle.std.proofs.lemmas.Nat.{div_below, le-div, pow_pos, or_comm, or_shifted, xor_shr, xor_mod}
-use Rattle.std.proofs.lemmas.List.{take_more, length-take-le, set-get_or}
+use Rattle.std.proofs.lemmas.Nat.{div_below, le-div, pow_pos, xor_shr, xor_mod}
 use Rattle.std.proofs.lemmas.Bool.{true≢false, false≢true, cases_lt, eq-eqb, ne_eqb, lt-ltb, le-ltb}
 use Rattle.std.proofs.lemmas.Bool.Decides.{nat_tests}
 use Rattle.cargo.specs.Inputs.{bit, number, inputs_in}
@@ -28,7 +27,8 @@ length_inputs_in (suc count) n = ap suc (length_inputs_in count (n / 2))
 pub number_inputs_in : (count n : ℕ) → n < 2 ^ count → number (inputs_in count n) ≡ n
 number_inputs_in zero n h = omega arith
 number_inputs_in (suc count) n h =
-    let rest : number (inputs_in count (n / 2)) ≡ n / 2 = number_inputs_in count (n / 2) (div_below n 2 (2 ^ count) (omega arith) (rw (← pow-suc 2 count) h)) in
+    let rest : number (inputs_in count (n / 2)) ≡ n / 2 =
+    number_inputs_in count (n / 2) (div_below n 2 (2 ^ count) (omega arith) (rw (← pow-suc 2 count) h)) in
     let low = low_bit n in
     omega arith
 
@@ -47,13 +47,6 @@ number_below (on ∷ inputs) =
     let rest = number_below inputs in
     rw (pow-suc 2 (length inputs)) (omega arith)
 
--- one more input
-pub number_more : (inputs : List Bool) (on : Bool) → number (inputs ++ on ∷ []) ≡ number inputs + bit on * 2 ^ length inputs
-number_more [] on = omega arith
-number_more (b ∷ inputs) on =
-    let rest = number_more inputs on in
-    rw (rest, pow-suc 2 (length inputs), ← mul_assoc (bit on) (2 ^ length inputs) 2) (omega arith)
-
 -- bit k of the number is input k
 pub number_bit : (inputs : List Bool) (k : ℕ) → number inputs / 2 ^ k % 2 ≡ bit (slice_index_or inputs k false)
 number_bit [] k = rw (div-eq_of_lt (pow_pos k))
@@ -66,7 +59,8 @@ number_bit (on ∷ inputs) (suc k) =
     rw (pow-succ' 2 k, ← div-div-eq-div-mul (bit on + 2 * number inputs) 2 (2 ^ k), high) (number_bit inputs k)
 
 -- the first k inputs and those behind them
-pub number_split : (k : ℕ) (inputs : List Bool) → number inputs ≡ number (take k inputs) + 2 ^ k * number (drop k inputs)
+pub number_split : (k : ℕ) (inputs : List Bool)
+    → number inputs ≡ number (take k inputs) + 2 ^ k * number (drop k inputs)
 number_split zero inputs = omega arith
 number_split (suc k) [] = omega arith
 number_split (suc k) (on ∷ inputs) =
@@ -79,7 +73,9 @@ other_bit (suc zero) h = refl
 other_bit (suc (suc n)) h = absurd (omega arith)
 
 -- changing one bit changes one input
-pub flipped : (k count n : ℕ) → k < count → inputs_in count (bit_xor n (2 ^ k)) ≡ slice_set (inputs_in count n) k (not (slice_index_or (inputs_in count n) k false))
+pub flipped : (k count n : ℕ) → k < count
+    → inputs_in count (bit_xor n (2 ^ k)) ≡ slice_set (inputs_in count n) k
+    (not (slice_index_or (inputs_in count n) k false))
 flipped k zero n h = absurd (omega arith)
 flipped zero (suc count) n h =
     let low : bit_xor n 1 % 2 ≡ bit_xor (n % 2) 1 = xor_mod n 1 1 in
@@ -97,7 +93,8 @@ flipped (suc k) (suc count) n h =
 pub input_bit : (k count n : ℕ) → k < count → (n / 2 ^ k % 2 == 1) ≡ slice_index_or (inputs_in count n) k false
 input_bit k zero n h = absurd (omega arith)
 input_bit zero (suc count) n h = rw div-one
-input_bit (suc k) (suc count) n h = rw (pow-succ' 2 k, ← div-div-eq-div-mul n 2 (2 ^ k)) (input_bit k count (n / 2) (omega arith))
+input_bit (suc k) (suc count) n h =
+    rw (pow-succ' 2 k, ← div-div-eq-div-mul n 2 (2 ^ k)) (input_bit k count (n / 2) (omega arith))
 
 alike : (a b : Bool) → beq a b ≡ true → a ≡ b
 alike true true e = refl
@@ -111,27 +108,11 @@ unlike true false e = refl
 unlike false true e = refl
 unlike false false e = absurd (true≢false e)
 
--- input k is `on` already
-pub same_input : (inputs : List Bool) (k : ℕ) (was on : Bool) → was ≡ slice_index_or inputs k false → beq was on ≡ true → inputs ≡ slice_set inputs k on
-same_input inputs k was on e f = sym (set-get_or inputs k false) ∙ ap (set inputs k) (sym e ∙ alike was on f)
-
 -- input k is not `on` yet: its bit is changed
-pub other_input : (k count n : ℕ) (was on : Bool) → k < count → was ≡ slice_index_or (inputs_in count n) k false → beq was on ≡ false → inputs_in count (bit_xor n (2 ^ k)) ≡ slice_set (inputs_in count n) k on
-other_input k count n was on h e f = flipped k count n h ∙ ap (set (inputs_in count n) k) (ap not (sym e) ∙ unlike was on f)
-
--- a loop's step over the inputs
-pub number_step : (inputs : List Bool) (k : ℕ) (on : Bool) → k < length inputs → slice_index_or inputs k false ≡ on → number (take (k + 1) inputs) ≡ number (take k inputs) + bit on * 2 ^ k
-number_step inputs k on h e =
-    ap number (take_more inputs k false h)
-    ∙ number_more (take k inputs) (slice_index_or inputs k false)
-    ∙ rw (length-take-le k inputs (omega arith), e)
-
--- setting bit k of a number of k bits
-pub set_bit : (k n : ℕ) → n < 2 ^ k → bit_or n (2 ^ k) ≡ n + 1 * 2 ^ k
-set_bit k n h =
-    let one : 1 * 2 ^ k ≡ 2 ^ k = omega arith in
-    let e : bit_or (1 * 2 ^ k) n ≡ 1 * 2 ^ k + n = or_shifted 1 k n h in
-    or_comm n (2 ^ k) ∙ (rw one at e) ∙ omega arith
+pub other_input : (k count n : ℕ) (was on : Bool) → k < count → was ≡ slice_index_or (inputs_in count n) k false
+    → beq was on ≡ false → inputs_in count (bit_xor n (2 ^ k)) ≡ slice_set (inputs_in count n) k on
+other_input k count n was on h e f =
+    flipped k count n h ∙ ap (set (inputs_in count n) k) (ap not (sym e) ∙ unlike was on f)
 
 -- a number has no bit from bit k on where it is below 2 ^ k
 pub no_high_bits : (n k : ℕ) → (n / 2 ^ k == 0) ≡ nat_lt n (2 ^ k)

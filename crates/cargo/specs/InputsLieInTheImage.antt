@@ -1,6 +1,7 @@
--- Inputs in octets: the image of a panel is the number of its inputs, and then the octets of the number that they are, lowest first.
-use Rattle.std.specs.Prelude.{◌≡◌, ℕ, zero, suc, ◌+◌, ◌-◌, ◌*◌, ◌/◌, ◌%◌, ◌^◌, ◌<◌, ◌≤◌, Bool, false, List, ◌∷◌, length, get_or, take, drop, slice_index_or, refl}
-use Rattle.std.proofs.Common.{sym, ap, ◌∙◌, pow-suc, one-add, arith, drop-cons}
+-- Inputs in octets: the image of a panel is the number of its inputs, and then the octets of the number that they
+-- are, lowest first.
+use Rattle.std.specs.Prelude.{◌≡◌, ℕ, zero, suc, ◌+◌, ◌*◌, ◌/◌, ◌%◌, ◌^◌, ◌<◌, ◌≤◌, Bool, false, List, ◌∷◌, length, get_or, take, drop, slice_index_or, refl}
+use Rattle.std.proofs.Common.{ap, ◌∙◌, one-add, arith}
 use Rattle.std.proofs.Math.Nat.{pow-succ', pow-le-pow_right}
 use Rattle.std.proofs.lemmas.Nat.{pow-add}
 use Rattle.std.proofs.lemmas.List.{get_or-take, get_or-drop, length-take, drop-drop}
@@ -34,19 +35,28 @@ packed_little (suc n) inputs =
 pub image_little : (count n : ℕ) → n < 2 ^ count → panel_image (inputs_in count n) ≡ count ∷ little (octets_for count) n
 image_little count n h =
     let l = length_inputs_in count n in
-    rw l (ap (λ (l : List ℕ). count ∷ l) (packed_little (octets_for count) (inputs_in count n) ∙ ap (little (octets_for count)) (number_inputs_in count n h)))
+    rw l (ap (λ (l : List ℕ). count ∷ l)
+    (packed_little (octets_for count) (inputs_in count n)
+    ∙ ap (little (octets_for count)) (number_inputs_in count n h)))
 
-octet_packed : (n : ℕ) (inputs : List Bool) (j : ℕ) → j < n → octet (packed n inputs) j ≡ number (take 8 (drop (8 * j) inputs))
+octet_packed : (n : ℕ) (inputs : List Bool) (j : ℕ) → j < n
+    → octet (packed n inputs) j ≡ number (take 8 (drop (8 * j) inputs))
 octet_packed zero inputs j h = absurd (omega arith)
 octet_packed (suc n) inputs zero h = refl
-octet_packed (suc n) inputs (suc j) h = octet_packed n (drop 8 inputs) j (omega arith) ∙ ap (λ (l : List Bool). number (take 8 l)) (drop-drop (8 * j) 8 inputs ∙ ap (λ (m : ℕ). drop m inputs) (omega arith))
+octet_packed (suc n) inputs (suc j) h =
+    octet_packed n (drop 8 inputs) j (omega arith)
+    ∙ ap (λ (l : List Bool). number (take 8 l))
+    (drop-drop (8 * j) 8 inputs ∙ ap (λ (m : ℕ). drop m inputs) (omega arith))
 
 pub laid_out : (inputs : List Bool) → LaidOut inputs (panel_image inputs)
 laid_out inputs = record {
   count = refl;
   size = rw (length-packed (octets_for (length inputs)) inputs) (omega arith);
-  places = λ k h. rw (one-add (k / 8), octet_packed (octets_for (length inputs)) inputs (k / 8) h) (number_bit (take 8 (drop (8 * (k / 8)) inputs)) (k % 8) ∙ ap bit (here k));
-  octets = λ j h. rw (one-add j, octet_packed (octets_for (length inputs)) inputs j h) (eight_below (drop (8 * j) inputs));
+  places = λ k h.
+      rw (one-add (k / 8), octet_packed (octets_for (length inputs)) inputs (k / 8) h)
+      (number_bit (take 8 (drop (8 * (k / 8)) inputs)) (k % 8) ∙ ap bit (here k));
+  octets = λ j h.
+      rw (one-add j, octet_packed (octets_for (length inputs)) inputs j h) (eight_below (drop (8 * j) inputs));
 }
   where
     here : (k : ℕ) → slice_index_or (take 8 (drop (8 * (k / 8)) inputs)) (k % 8) false ≡ slice_index_or inputs k false
@@ -77,13 +87,6 @@ fits_octets count n h =
     let enough : count ≤ 8 * octets_for count = omega arith in
     let room : 2 ^ count ≤ 2 ^ (8 * octets_for count) = pow-le-pow_right (omega arith) enough in
     rw (pow_octets (octets_for count)) (omega arith)
-
--- one more octet below those of a number
-pub little_more : (w n o : ℕ) → o < 256 → little (suc w) (256 * n + o) ≡ o ∷ little w n
-little_more w n o h =
-    let low : (256 * n + o) % 256 ≡ o = omega arith in
-    let high : (256 * n + o) / 256 ≡ n = omega arith in
-    rw (low, high)
 
 -- an image has at most nine octets
 pub image_length : (inputs : List Bool) → length (panel_image inputs) ≡ 1 + octets_for (length inputs)

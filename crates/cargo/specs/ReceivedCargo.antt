@@ -25,6 +25,7 @@ Receives image xs r = Taken image (reading xs) r
 abbrev pub Delivered : {C : Type 0} → (C → List ℕ) → List ℕ → Result C Fault → Type 0
 Delivered {C = C} image xs r = (v : C) → xs ≡ octets_of (data_frame (image v)) → r ≡ Ok v
 
--- what comes back of a value that is written into a buffer and read again: the value, or Space where the buffer is shorter than its image
+-- what comes back of a value that is written into a buffer and read again: the value, or Space where the buffer is
+-- shorter than its image
 abbrev pub returning : {C : Type 0} → (C → List ℕ) → C → List ℕ → Result C Fault
 returning image v buffer = cond (nat_lt (length buffer) (length (image v))) (Err (fault refusal.Space 0)) (Ok v)

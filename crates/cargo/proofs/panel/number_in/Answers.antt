@@ -22,4 +22,6 @@ with_zeros (a ∷ b ∷ c ∷ d ∷ e ∷ f ∷ g ∷ i ∷ j ∷ xs) h = absurd
 pub returns : goal.returns
 returns c =
     let xs = c.args.octets.now in
-    c.from_le_bytes.ensures ∙ ap (λ (l : List ℕ). from_le_bytes w64 (among_zeros l (length xs))) c.copy_from_slice.ensures.after ∙ with_zeros xs c.requires
+    c.from_le_bytes.ensures
+    ∙ ap (λ (l : List ℕ). from_le_bytes w64 (among_zeros l (length xs))) c.copy_from_slice.ensures.after
+    ∙ with_zeros xs c.requires

@@ -29,14 +29,17 @@ value_below (x ∷ xs) b =
 pub returns-then-octets-octets_for : goal.returns-then-octets-octets_for
 returns-then-octets-octets_for c =
     let xs = c.args.image.now in
-    subst ImagesNone (parted xs (omega arith)) (not_sized (octet xs 0) (behind xs) (λ e. c.if-octets-octets_for.true (e ∙ sym c.octets_for.ensures)))
+    subst ImagesNone (parted xs (omega arith))
+    (not_sized (octet xs 0) (behind xs) (λ e. c.if-octets-octets_for.true (e ∙ sym c.octets_for.ensures)))
 
 pub returns-then-not-has_bits : goal.returns-then-not-has_bits
 returns-then-not-has_bits c =
     let xs = c.args.image.now in
     let b = behind_below xs (λ i. omega (arith, c.type_inv.image i)) in
     let n = c.number_in-inputs.ensures in
-    subst ImagesNone (parted xs (omega arith)) (not_unused (octet xs 0) (value (behind xs)) (behind xs) (little_value (behind xs) b) (value_below (behind xs) b) (ltb-false _ _ (rw n at (sym c.has_bits.ensures ∙ c.if-not-has_bits.true))))
+    subst ImagesNone (parted xs (omega arith))
+    (not_unused (octet xs 0) (value (behind xs)) (behind xs) (little_value (behind xs) b)
+    (value_below (behind xs) b) (ltb-false _ _ (rw n at (sym c.has_bits.ensures ∙ c.if-not-has_bits.true))))
 
 pub invariant_of-result : goal.invariant_of-result
 invariant_of-result c =
@@ -52,4 +55,6 @@ returns c =
     let xs = c.args.image.now in
     let b = behind_below xs (λ i. omega (arith, c.type_inv.image i)) in
     let n = c.number_in-inputs.ensures in
-    sized (octet xs 0) c.number_in-inputs.result (behind xs) (c.if-octets-octets_for.false ∙ c.octets_for.ensures) (ap (little (length (behind xs))) n ∙ little_value (behind xs) b) (ltb-true _ _ (sym c.if-not-has_bits.ensures)) ∙ parted xs (omega arith)
+    sized (octet xs 0) c.number_in-inputs.result (behind xs) (c.if-octets-octets_for.false ∙ c.octets_for.ensures)
+    (ap (little (length (behind xs))) n ∙ little_value (behind xs) b)
+    (ltb-true _ _ (sym c.if-not-has_bits.ensures)) ∙ parted xs (omega arith)

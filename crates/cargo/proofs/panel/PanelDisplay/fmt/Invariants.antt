@@ -5,4 +5,5 @@ use Rattle.cargo.proofs.panel.PanelDisplay.fmt.Given as goal
 
 -- the inputs so far were written, if the formatter was plain
 abbrev pub invariant-loop-k : goal.invariant-loop-k
-invariant-loop-k g l = IsPlainFormatter l.fn.f → HasWritten g.W.Write.write_str_gives l.fn.f (panel_text (take l.k (inputs_of l.self))) l.f
+invariant-loop-k g l = IsPlainFormatter l.fn.f
+    → HasWritten g.W.Write.write_str_gives l.fn.f (panel_text (take l.k (inputs_of l.self))) l.f
