@@ -54,4 +54,13 @@ microseconds symbols = 16 * symbols
 
 -- sixteen timeslots of two octets each, two of them for retransmission
 abbrev pub sixteen_of_two : Numbers
-sixteen_of_two = record { timeslots = 16; uplink = 16; retransmission = 2; size = 2; management = 1; coordinator = 0; channel = 11; sequence = 0 }
+sixteen_of_two = record {
+  timeslots = 16;
+  uplink = 16;
+  retransmission = 2;
+  size = 2;
+  management = 1;
+  coordinator = 0;
+  channel = 11;
+  sequence = 0;
+}
