@@ -5,7 +5,7 @@ use Rattle.frame.specs.declared.command.Configuration.{Configuration}
 use Rattle.frame.specs.Messages.{Message, online_beacon, discovery_beacon, configuration_beacon, reset_beacon}
 use Rattle.frame.specs.Messages.{State, online, discovery, configuration, reset}
 use Rattle.plan.specs.declared.grant.Grant.{Grant}
-use Rattle.plan.specs.declared.grant.Numbers.{Numbers}
+use Rattle.plan.specs.declared.numbers.Numbers.{Numbers}
 use Rattle.plan.specs.Rules.{bitmap_octets}
 use Rattle.coordinator.specs.declared.mode.Mode.{Mode}
 use Rattle.coordinator.specs.declared.mode.Mode.TheVariants as mode

@@ -12,7 +12,7 @@ use Rattle.frame.specs.Formats.{Told, reading}
 use Rattle.frame.specs.Messages.{Message, online_beacon, discovery_beacon, configuration_beacon, reset_beacon}
 use Rattle.frame.specs.Messages.{State, online, discovery, configuration, reset}
 use Rattle.frame.specs.Refusals.{fault}
-use Rattle.plan.specs.declared.grant.Numbers.{Numbers}
+use Rattle.plan.specs.declared.numbers.Numbers.{Numbers}
 use Rattle.plan.specs.Rules.{bitmap_octets}
 use Rattle.repeats.specs.declared.group_acknowledgment.GroupAcknowledgment.{GroupAcknowledgment}
 use Rattle.repeats.specs.Bitmaps.{bit}

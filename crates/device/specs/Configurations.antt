@@ -3,7 +3,7 @@ use Rattle.std.specs.Prelude.{ℕ, Bool, ◌&&◌, Option}
 use Rattle.std.specs.Option.{option_map}
 use Rattle.frame.specs.declared.command.Configuration.{Configuration}
 use Rattle.plan.specs.declared.grant.Grant.{Grant}
-use Rattle.plan.specs.declared.grant.Numbers.{Numbers}
+use Rattle.plan.specs.declared.numbers.Numbers.{Numbers}
 use Rattle.plan.specs.Verdicts.{numbers_kept, grant_kept}
 use Rattle.device.specs.declared.member.Member.{Member}
 

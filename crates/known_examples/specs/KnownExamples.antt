@@ -9,7 +9,7 @@ use Rattle.frame.specs.Formats.{reading}
 use Rattle.frame.specs.Messages.{online, octets_of}
 use Rattle.frame.specs.Refusals.{fault, listed}
 use Rattle.plan.specs.declared.grant.Grant.{Grant}
-use Rattle.plan.specs.declared.grant.Numbers.{Numbers}
+use Rattle.plan.specs.declared.numbers.Numbers.{Numbers}
 use Rattle.plan.specs.Rules.{bitmap_octets}
 use Rattle.times.specs.Symbols.{timeslot_symbols}
 use Rattle.repeats.specs.Bitmaps.{nothing_heard, marked_with}

@@ -18,10 +18,10 @@ use Rattle.frame.specs.Messages.{data_frame, acknowledgment_frame, command_frame
 use Rattle.frame.specs.Refusals.{fault}
 use Rattle.frame.specs.Writing.{fitting, left_by}
 use Rattle.plan.specs.declared.grant.Grant.{Grant}
-use Rattle.plan.specs.declared.grant.Numbers.{Numbers}
+use Rattle.plan.specs.declared.numbers.Numbers.{Numbers}
 use Rattle.plan.specs.Rules.{PlanMeaning, Rules, grant_at, carried}
 use Rattle.plan.specs.Answers.{holding, number_with}
-use Rattle.plan.specs.Decisions.{held_now, held_later, held_before}
+use Rattle.plan.specs.TestsDecideTheRules.{held_now, held_later, held_before}
 use Rattle.plan.proofs.Lawful.{disjoint, grant_within, names_addressed}
 use Rattle.repeats.specs.BitAndRepeatTimeslots.{before_bits, place, timeslot_with, for_retransmission}
 use Rattle.repeats.specs.Bitmaps.{bit, acknowledged, nothing_heard, marked_with}
@@ -30,7 +30,7 @@ use Rattle.repeats.specs.Laws.{BitsAlike}
 use Rattle.repeats.proofs.EachGrantsBitsAreAlike.{always_alike, stays_alike}
 use Rattle.repeats.proofs.BitsAndRepeatsLieApart.{own_has_bit}
 use Rattle.repeats.proofs.MarkingSetsTheGrantsBits.{length-with_timeslots, marks}
-use Rattle.cargo.specs.Passing.{Receives}
+use Rattle.cargo.specs.ReceivedCargo.{Receives}
 use Rattle.coordinator.specs.declared.heard.Heard.{Heard}
 use Rattle.coordinator.specs.declared.state.Inner.{Inner}
 use Rattle.coordinator.specs.declared.mode.Mode.{Mode}

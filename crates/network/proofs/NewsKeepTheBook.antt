@@ -12,7 +12,7 @@ use Rattle.frame.specs.Messages.{State, online, discovery, configuration, reset,
 use Rattle.frame.proofs.OctetNumbers.{low_bits}
 use Rattle.frame.proofs.WrittenReadsBack.{reads_back, told_of}
 use Rattle.plan.specs.declared.grant.Grant.{Grant}
-use Rattle.plan.specs.declared.grant.Numbers.{Numbers}
+use Rattle.plan.specs.declared.numbers.Numbers.{Numbers}
 use Rattle.plan.specs.Rules.{PlanMeaning, Rules, NumbersKeep, grant_at, bitmap_octets}
 use Rattle.plan.proofs.Lawful.{grant_within}
 use Rattle.repeats.specs.BitAndRepeatTimeslots.{before_bits, before_repeats}

@@ -6,7 +6,7 @@ use Rattle.frame.specs.declared.faults.Fault.{Fault}
 use Rattle.frame.specs.declared.command.Wish.{Wish}
 use Rattle.frame.specs.Writing.{fitting}
 use Rattle.plan.specs.declared.grant.Grant.{Grant}
-use Rattle.plan.specs.declared.grant.Numbers.{Numbers}
+use Rattle.plan.specs.declared.numbers.Numbers.{Numbers}
 use Rattle.plan.specs.Rules.{PlanMeaning}
 use Rattle.repeats.specs.BitAndRepeatTimeslots.{place}
 use Rattle.repeats.specs.Bitmaps.{acknowledged, nothing_heard}

@@ -1,14 +1,13 @@
 -- What follows from the rules of a plan.
-use Rattle.std.proofs.Common.{◌≡◌, ℕ, ◌+◌, ◌*◌, ◌<◌, ◌≤◌, Bool, true, eqb, ◌⊎◌, Some, None, Option, sym, refl, ap, ◌∙◌, subst, inl, inr, ⊎_elim, arith}
-use Rattle.std.proofs.lemmas.Nat.{mul-le}
+use Rattle.std.proofs.Common.{◌≡◌, ℕ, ◌+◌, ◌<◌, ◌≤◌, Bool, true, eqb, ◌⊎◌, Some, None, Option, sym, refl, ap, ◌∙◌, subst, inl, inr, ⊎_elim, arith}
 use Rattle.std.proofs.lemmas.Bool.{both_ways, cases_lt, eqb-true, eq-eqb}
 use Rattle.plan.specs.declared.grant.Grant.{Grant}
-use Rattle.plan.specs.Rules.{PlanMeaning, count_of, grant_at, Holds, LiesIn, GrantKeeps, Rules, carried}
+use Rattle.plan.specs.Rules.{PlanMeaning, count_of, grant_at, Holds, GrantKeeps, Rules}
 use Rattle.plan.specs.Answers.{passing, first_grant, holding, holder_of, number_with}
 use Rattle.plan.specs.Laws.{AtMostOneHolder, AddressesDiffer, GrantWith, Names, NamesHolder, NamesAddressed, Alike}
-use Rattle.plan.specs.Decisions.{holding_decides}
-use Rattle.plan.specs.Firsts.{First, first_tells}
-use Rattle.plan.specs.Numbered.{numbered, passed, passes_there}
+use Rattle.plan.specs.TestsDecideTheRules.{holding_decides}
+use Rattle.plan.specs.LeastNumberThatPasses.{First, first_tells}
+use Rattle.plan.specs.GrantsByNumber.{numbered, passed, passes_there}
 
 module _ (m : PlanMeaning) (rules : Rules m) where
   pub at_most_one_holder : AtMostOneHolder m
@@ -23,32 +22,20 @@ module _ (m : PlanMeaning) (rules : Rules m) where
   grant_keeps i g at = rules.own i g at
 
   -- its timeslots come after those for retransmission, and up to the last one
-  pub grant_within : (i : ℕ) (g : Grant) → grant_at m i ≡ Some g → (m.numbers.retransmission < g.first) × (1 ≤ g.width) × (g.first + g.width ≤ m.numbers.timeslots + 1)
+  pub grant_within : (i : ℕ) (g : Grant) → grant_at m i ≡ Some g
+      → (m.numbers.retransmission < g.first) × (1 ≤ g.width) × (g.first + g.width ≤ m.numbers.timeslots + 1)
   grant_within i g at =
       let k = rules.own i g at in
       let n = rules.framed.numbers in
-      elim k.timeslots [ inl s ↦ (omega arith, omega arith, omega arith) | inr s ↦ (omega arith, omega arith, omega arith) ]
-
-  -- a grant that begins among the uplink timeslots has all of its own there
-  pub uplink_within : (i : ℕ) (g : Grant) → grant_at m i ≡ Some g → g.first ≤ m.numbers.uplink → LiesIn (m.numbers.retransmission + 1) m.numbers.uplink g
-  uplink_within i g at up = elim (rules.own i g at).timeslots [ inl s ↦ s | inr s ↦ absurd (omega arith) ]
-
-  -- and one that begins behind them has none there
-  pub bidirectional_within : (i : ℕ) (g : Grant) → grant_at m i ≡ Some g → m.numbers.uplink < g.first → LiesIn (m.numbers.uplink + 1) m.numbers.timeslots g
-  bidirectional_within i g at past =
-      let w = (rules.own i g at).width in
-      elim (rules.own i g at).timeslots [ inl s ↦ absurd (omega arith) | inr s ↦ s ]
-
-  -- it carries an octet at least, and no more than a frame does
-  pub carries_some : (i : ℕ) (g : Grant) → grant_at m i ≡ Some g → (1 ≤ carried m.numbers.size g) × (carried m.numbers.size g ≤ 124)
-  carries_some i g at =
-      let w = (rules.own i g at).width in
-      let n = rules.framed.numbers.size in
-      let some : 1 ≤ g.width * m.numbers.size = mul-le 1 1 g.width m.numbers.size w n.0 in
-      (omega arith, omega arith)
+      elim k.timeslots [
+        | inl s ↦ (omega arith, omega arith, omega arith)
+        | inr s ↦
+            (omega arith, omega arith, omega arith)
+      ]
 
   -- of two grants, one ends before the other begins
-  pub disjoint : (i j : ℕ) (g h : Grant) → grant_at m i ≡ Some g → grant_at m j ≡ Some h → (i ≡ j → ⊥) → (g.first + g.width ≤ h.first) ⊎ (h.first + h.width ≤ g.first)
+  pub disjoint : (i j : ℕ) (g h : Grant) → grant_at m i ≡ Some g → grant_at m j ≡ Some h → (i ≡ j → ⊥)
+      → (g.first + g.width ≤ h.first) ⊎ (h.first + h.width ≤ g.first)
   disjoint i j g h here there differ =
       let v = (rules.own i g here).width in
       let w = (rules.own j h there).width in
@@ -57,14 +44,19 @@ module _ (m : PlanMeaning) (rules : Rules m) where
         | inl e ↦ elim (cases_lt g.first (h.first + h.width)) [
           | inr f ↦ inr f
           | inl f ↦ elim (cases_lt g.first h.first) [
-            | inl b ↦ absurd (differ (at_most_one_holder h.first i j g h here there (omega arith, omega arith) (omega arith, omega arith)))
-            | inr b ↦ absurd (differ (at_most_one_holder g.first i j g h here there (omega arith, omega arith) (omega arith, omega arith)))
+            | inl b ↦ absurd
+                (differ (at_most_one_holder h.first i j g h here there (omega arith, omega arith)
+                (omega arith, omega arith)))
+            | inr b ↦ absurd
+                (differ (at_most_one_holder g.first i j g h here there (omega arith, omega arith)
+                (omega arith, omega arith)))
           ]
         ]
       ]
 
   -- a test that one grant at most passes names that grant
-  module _ (p : Grant → Bool) (P : Grant → Type 0) (tells : (g : Grant) → (p g ≡ true → P g) × (P g → p g ≡ true)) (once : (i j : ℕ) (g h : Grant) → grant_at m i ≡ Some g → grant_at m j ≡ Some h → P g → P h → i ≡ j) where
+  module _ (p : Grant → Bool) (P : Grant → Type 0) (tells : (g : Grant) → (p g ≡ true → P g) × (P g → p g ≡ true))
+      (once : (i j : ℕ) (g h : Grant) → grant_at m i ≡ Some g → grant_at m j ≡ Some h → P g → P h → i ≡ j) where
     told : (i : ℕ) → passing p (grant_at m i) ≡ true → GrantWith m P i
     told i e = let there = passed p (grant_at m i) e in (there.0, there.1, (tells there.0).0 there.2)
 
@@ -87,7 +79,9 @@ module _ (m : PlanMeaning) (rules : Rules m) where
   -- the holder of a timeslot is the grant that holds it
   pub names_holder : (t : ℕ) → NamesHolder m t (holder_of m t)
   unfolding holder_of
-  names_holder t = names_the_one (holding t) (λ g. Holds g t) (holding_decides t) (λ i j g h here there a b. at_most_one_holder t i j g h here there a b)
+  names_holder t =
+      names_the_one (holding t) (λ g. Holds g t) (holding_decides t)
+      (λ i j g h here there a b. at_most_one_holder t i j g h here there a b)
 
   -- the number found for a full address is that of the grant that has it
   pub names_addressed : (a : ℕ) → NamesAddressed m a (number_with m a)
@@ -96,13 +90,7 @@ module _ (m : PlanMeaning) (rules : Rules m) where
       names_the_one (λ g. eqb g.address a) (λ g. g.address ≡ a) (λ g. (eqb-true g.address a, eq-eqb g.address a))
       (λ i j g h here there e f. addresses_differ i j g h here there (inl (e ∙ sym f)))
 
-  -- a timeslot without a holder is held by no grant
-  pub none_holds : (t i : ℕ) (g : Grant) → holder_of m t ≡ None → grant_at m i ≡ Some g → Holds g t → ⊥
-  none_holds t i g none at h =
-      let e = (names_holder t i).1 (g, at, h) in
-      let z : ◌≡◌ {A = ℕ} 0 1 = cc in
-      omega arith
-
 -- plans of one meaning answer alike
 pub alike : (m o : PlanMeaning) (i t : ℕ) → m ≡ o → Alike m o i t
-alike m o i t e = subst (λ (x : PlanMeaning). Alike m x i t) e (record { numbers = refl; count = refl; grant = refl; holder = refl })
+alike m o i t e =
+    subst (λ (x : PlanMeaning). Alike m x i t) e (record { numbers = refl; count = refl; grant = refl; holder = refl })

@@ -1,4 +1,5 @@
-pub mod Evenly
+pub mod EvenGrantsNeverClash
+pub mod HolderOfAnEvenPlan
 pub mod Lawful
-pub mod Searched
-pub mod Listing
+pub mod FindGivesTheLeastNumber
+pub mod FindGivesTheFirstGrant

@@ -6,11 +6,13 @@ use Rattle.plan.specs.Answers.{holder_of}
 
 -- at most one grant holds a base timeslot
 abbrev pub AtMostOneHolder : PlanMeaning → Type 0
-AtMostOneHolder m = (t i j : ℕ) (g h : Grant) → grant_at m i ≡ Some g → grant_at m j ≡ Some h → Holds g t → Holds h t → i ≡ j
+AtMostOneHolder m = (t i j : ℕ) (g h : Grant) → grant_at m i ≡ Some g → grant_at m j ≡ Some h → Holds g t
+    → Holds h t → i ≡ j
 
 -- no two grants share a full or a simple address
 abbrev pub AddressesDiffer : PlanMeaning → Type 0
-AddressesDiffer m = (i j : ℕ) (g h : Grant) → grant_at m i ≡ Some g → grant_at m j ≡ Some h → (g.address ≡ h.address) ⊎ (g.simple ≡ h.simple) → i ≡ j
+AddressesDiffer m = (i j : ℕ) (g h : Grant) → grant_at m i ≡ Some g → grant_at m j ≡ Some h
+    → (g.address ≡ h.address) ⊎ (g.simple ≡ h.simple) → i ≡ j
 
 -- there is a grant i, and a property holds of it
 abbrev pub GrantWith : PlanMeaning → (Grant → Type 0) → ℕ → Type 0

@@ -4,7 +4,7 @@ use Rattle.std.specs.List.{slice_get}
 use Rattle.frame.specs.declared.direction.Direction.{Direction}
 use Rattle.frame.specs.declared.direction.Direction.TheVariants as directions
 use Rattle.plan.specs.declared.grant.Grant.{Grant}
-use Rattle.plan.specs.declared.grant.Numbers.{Numbers}
+use Rattle.plan.specs.declared.numbers.Numbers.{Numbers}
 
 -- what a plan means: its numbers, and its grants in order
 pub record PlanMeaning : Type 0 where

@@ -5,7 +5,7 @@ use Rattle.frame.specs.declared.faults.Fault.{Fault}
 use Rattle.frame.specs.declared.faults.Refusal.TheVariants as refusal
 use Rattle.frame.specs.Refusals.{fault}
 use Rattle.plan.specs.declared.grant.Grant.{Grant}
-use Rattle.plan.specs.declared.grant.Numbers.{Numbers}
+use Rattle.plan.specs.declared.numbers.Numbers.{Numbers}
 use Rattle.plan.specs.Rules.{PlanMeaning, count_of, numbered_in, grant_at, Clash, GrantKeeps, Framed, Rules}
 use Rattle.plan.specs.Answers.{first_of, passing}
 
@@ -40,7 +40,8 @@ clashing_before gs n g = is_some (first_of (λ j. passing (λ h. clashing h g) (
 unfoldable pub breaking : PlanMeaning → ℕ → Bool
 breaking m i = passing (λ g. not (grant_kept m.numbers g) || clashing_before m.grants (i - 1) g) (grant_at m i)
 
--- the fault: a broken number or too many grants come first, with place 0; else the place is the number of the first grant that breaks a rule
+-- the fault: a broken number or too many grants come first, with place 0; else the place is the number of the first
+-- grant that breaks a rule
 unfoldable pub verdict : PlanMeaning → Option Fault
 verdict m =
     cond (numbers_kept m.numbers && nat_le (count_of m) 128)
@@ -49,7 +50,8 @@ verdict m =
 
 -- grant i, if there is one, keeps the rules by itself and with each grant before it
 abbrev pub KeepsSoFar : PlanMeaning → ℕ → Type 0
-KeepsSoFar m i = (g : Grant) → grant_at m i ≡ Some g → GrantKeeps m.numbers g × ((j : ℕ) (h : Grant) → j < i → grant_at m j ≡ Some h → Clash h g → ⊥)
+KeepsSoFar m i = (g : Grant) → grant_at m i ≡ Some g
+    → GrantKeeps m.numbers g × ((j : ℕ) (h : Grant) → j < i → grant_at m j ≡ Some h → Clash h g → ⊥)
 
 -- the first grant that breaks a rule has this number, in a plan whose frame is sound
 pub record FirstBroken (m : PlanMeaning) (place : ℕ) : Type 0 where

@@ -2,12 +2,12 @@
 ghost use Rattle.std.specs.Prelude.{◌≡◌, ◌-◌};
 ghost use Rattle.std.specs.Iterator.{at_most};
 ghost use Rattle.plan.specs.Rules.{count_of};
-ghost use Rattle.plan.specs.Steps.{grants_steps};
+ghost use Rattle.plan.specs.StepsThroughGrants.{grants_steps};
 
 use super::grant::Grant;
-use super::slots::SlotPlan;
+use super::slot_plan::SlotPlan;
 
-// The grants of a plan, each behind its number, from grant 1 on.
+/// The grants of a plan, each behind its number, from grant 1 on.
 #[derive(Drop)]
 pub struct Grants<'p, P> {
     plan: &'p P,
@@ -16,7 +16,7 @@ pub struct Grants<'p, P> {
 }
 
 impl<'p, P: SlotPlan> Grants<'p, P> {
-    // All grants of a plan.
+    /// All grants of a plan.
     pub fn of(plan: &'p P) -> Grants<'p, P>
         ensures plan { result.plan.now ≡ plan.now }
         ensures given { result.given ≡ 0 }

@@ -1,19 +1,22 @@
-// Slot plans of the low latency mode (LLDN) of IEEE 802.15.4: which device may send when.
+//! Slot plans of the low latency mode (LLDN) of IEEE 802.15.4: which device may send when.
 #![tactic(auto)]
 
-mod asking;
+mod comparison;
 mod even;
+mod even_grants;
 mod grant;
 mod grants;
 mod listed;
-mod slots;
-#[cfg(test)]
-mod tests;
+mod lookups;
+mod numbers;
+mod slot_plan;
 
-pub use asking::{answer_alike, grant_holding, grant_with_address};
+pub use comparison::answer_alike;
 pub use even::EvenPlan;
-pub use even::grants::EvenGrants;
-pub use grant::{Grant, Numbers};
+pub use even_grants::EvenGrants;
+pub use grant::Grant;
 pub use grants::Grants;
 pub use listed::ListedPlan;
-pub use slots::SlotPlan;
+pub use lookups::{grant_holding, grant_with_address};
+pub use numbers::Numbers;
+pub use slot_plan::SlotPlan;

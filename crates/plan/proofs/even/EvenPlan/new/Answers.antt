@@ -1,14 +1,15 @@
 use Rattle.std.proofs.Common.{◌≡◌, ◌≤◌, Bool, true, is_some, Some, None, Decides, sym, refl, ap, ◌∙◌, arith}
 use Rattle.std.proofs.lemmas.Bool.Decides.{not_from_Decides}
-use Rattle.plan.specs.declared.even.grants.EvenGrants.{EvenGrants}
-use Rattle.plan.specs.declared.grant.Numbers.{Numbers}
+use Rattle.plan.specs.declared.even_grants.EvenGrants.{EvenGrants}
+use Rattle.plan.specs.declared.numbers.Numbers.{Numbers}
 use Rattle.plan.specs.Rules.{Framed, NumbersKeep}
-use Rattle.plan.specs.Judged.{only_verdict, verdict_frame}
-use Rattle.plan.proofs.Evenly.{plan, even_count, even_verdict}
+use Rattle.plan.specs.VerdictsFollowTheRules.{only_verdict, verdict_frame}
+use Rattle.plan.proofs.EvenGrantsNeverClash.{plan, even_count, even_verdict}
 use Rattle.plan.proofs.even.EvenPlan.new.Goals as goal
 use Rattle.plan.proofs.even.EvenPlan.new.Goals.{then-not-keep-via-then-not-keep, then-not-keep-via-else-not-keep+then-grants-gt128}
 
-framed : (ns : Numbers) (gs : EvenGrants) (b : Bool) → Decides b (NumbersKeep ns) → b ≡ true → gs.count ≤ 128 → Framed (plan ns gs)
+framed : (ns : Numbers) (gs : EvenGrants) (b : Bool) → Decides b (NumbersKeep ns) → b ≡ true → gs.count ≤ 128
+    → Framed (plan ns gs)
 framed ns gs b d e few = record { numbers = d.0 e; few = let c = even_count ns gs in omega arith }
 
 pub returns-then-not-keep : goal.returns-then-not-keep
@@ -26,7 +27,9 @@ pub returns-in-Some : goal.returns-in-Some
 returns-in-Some c =
     let m = plan c.args.numbers c.args.grants in
     let sound = framed c.args.numbers c.args.grants _ c.keep.ensures c.if-not-keep.false (omega arith) in
-    let e = ap Some c.at-in-Some.ensures ∙ sym (even_verdict c.args.numbers c.args.grants (Some c.in-Some.i) sound (sym c.in-Some.is ∙ c.first_to_break.ensures)) in
+    let e = ap Some c.at-in-Some.ensures
+    ∙ sym (even_verdict c.args.numbers c.args.grants (Some c.in-Some.i) sound
+    (sym c.in-Some.is ∙ c.first_to_break.ensures)) in
     record { answer = e; kept = tt; only = only_verdict m _ e }
 
 pub invariant_of-result : goal.invariant_of-result
@@ -34,7 +37,8 @@ invariant_of-result c =
     let sound = framed c.args.numbers c.args.grants _ c.keep.ensures c.if-not-keep.false (omega arith) in
     record {
       counted = even_count c.args.numbers c.args.grants;
-      lawful = ap is_some (even_verdict c.args.numbers c.args.grants None sound (sym c.in-None.is ∙ c.first_to_break.ensures));
+      lawful = ap is_some
+          (even_verdict c.args.numbers c.args.grants None sound (sym c.in-None.is ∙ c.first_to_break.ensures));
     }
 
 pub returns-in-None : goal.returns-in-None
