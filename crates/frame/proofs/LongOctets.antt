@@ -1,13 +1,16 @@
 -- Octets past the longest frame change nothing.
-use Rattle.std.proofs.Common.{◌≡◌, ℕ, ◌+◌, ◌<◌, ◌≤◌, Bool, true, false, cond, not, eqb, ltb, List, [], ◌∷◌, length, take, Ok, Err, Result, sym, refl, ap, ◌∙◌, inl, inr, arith, lit≤}
+use Rattle.std.proofs.Common.{◌≡◌, ℕ, ◌+◌, ◌<◌, ◌≤◌, Bool, true, false, cond, not, eqb, ltb, List, [], ◌∷◌, length}
+use Rattle.std.proofs.Common.{take, Ok, Err, Result, sym, refl, ap, ◌∙◌, inl, inr, arith, lit≤}
 use Rattle.std.proofs.lemmas.List.{get_or-take, length-take-le, take_all}
 use Rattle.std.proofs.lemmas.Bool.{cases_lt, lt-ltb, le-ltb, ne_eqb, cond-false}
 use Rattle.frame.specs.declared.faults.Fault.{Fault}
 use Rattle.frame.specs.declared.faults.Refusal.TheVariants as refusal
 use Rattle.frame.specs.declared.direction.Direction.{Direction}
 use Rattle.frame.specs.Fields.{Field, address, number, direction, unused, fields_length, From, directed, said_by}
-use Rattle.frame.specs.Formats.{Format, beacon, payload, acknowledgment, command, unlisted_state, unlisted_type, unlisted_identifier}
-use Rattle.frame.specs.Formats.{coded_head, extent, format_of, format_in, said, Told, unless_surplus, reading_as, reading}
+use Rattle.frame.specs.Formats.{Format, beacon, payload, acknowledgment, command, unlisted_state, unlisted_type}
+use Rattle.frame.specs.Formats.{unlisted_identifier}
+use Rattle.frame.specs.Formats.{coded_head, extent, format_of, format_in, said, Told, unless_surplus, reading_as}
+use Rattle.frame.specs.Formats.{reading}
 use Rattle.frame.specs.Messages.{Message, online, discovery, configuration, reset}
 use Rattle.frame.specs.Messages.{discover_response, configuration_status, configuration_request, fields, message_from}
 use Rattle.frame.specs.Octets.{bits, octet}
@@ -18,12 +21,14 @@ abbrev too_many : Format → Result Message Fault → Result Told Fault
 too_many φ (Ok m) = Err (fault refusal.Surplus (extent φ).most)
 too_many φ (Err e) = Err e
 
-surplus : (φ : Format) (xs : List ℕ) (r : Result Message Fault) → (extent φ).most < length xs → unless_surplus φ xs r ≡ too_many φ r
+surplus : (φ : Format) (xs : List ℕ) (r : Result Message Fault) → (extent φ).most < length xs →
+    unless_surplus φ xs r ≡ too_many φ r
 surplus φ xs (Ok m) h = rw (lt-ltb _ _ h)
 surplus φ xs (Err e) h = refl
 
 -- which of two messages stands there does not matter
-either : (φ : Format) (b : Bool) (m n : Message) (e : Fault) → too_many φ (cond b (Ok m) (Err e)) ≡ too_many φ (cond b (Ok n) (Err e))
+either : (φ : Format) (b : Bool) (m n : Message) (e : Fault) →
+    too_many φ (cond b (Ok m) (Err e)) ≡ too_many φ (cond b (Ok n) (Err e))
 either φ true m n e = refl
 either φ false m n e = refl
 
@@ -56,9 +61,12 @@ long_as φ xs h =
 
 -- the tests of the control octet, and then r
 abbrev controlled : ℕ → Result Told Fault → Result Told Fault
-controlled c r = cond (not (eqb (bits 0 3 c) 4)) (Err (fault refusal.Foreign 0)) (cond (not (eqb (bits 3 2 c) 0)) (Err (fault refusal.Reserved 0)) r)
+controlled c r =
+    cond (not (eqb (bits 0 3 c) 4)) (Err (fault refusal.Foreign 0))
+    (cond (not (eqb (bits 3 2 c) 0)) (Err (fault refusal.Reserved 0)) r)
 
-long_reading : (xs : List ℕ) → 125 < length xs → reading xs ≡ controlled (octet xs 0) (too_many (format_in xs) (said (format_in xs) xs))
+long_reading : (xs : List ℕ) → 125 < length xs →
+    reading xs ≡ controlled (octet xs 0) (too_many (format_in xs) (said (format_in xs) xs))
 long_reading xs h =
     let some : eqb (length xs) 0 ≡ false = ne_eqb (length xs) 0 (λ e. omega arith) in
     cond-false _ _ _ some ∙ ap (controlled (octet xs 0)) (long_as (format_in xs) xs h)
@@ -85,7 +93,9 @@ module _ (xs ys : List ℕ) (same : (i : ℕ) → i < 126 → octet ys i ≡ oct
   alike unlisted_identifier = refl
 
   same_format : format_in ys ≡ format_in xs
-  same_format = ap (λ (c : ℕ). format_of (bits 6 2 c) (octet ys 1)) (same 0 (omega arith)) ∙ ap (format_of (bits 6 2 (octet xs 0))) (same 1 (omega arith))
+  same_format =
+      ap (λ (c : ℕ). format_of (bits 6 2 c) (octet ys 1)) (same 0 (omega arith)) ∙
+      ap (format_of (bits 6 2 (octet xs 0))) (same 1 (omega arith))
 
   long_alike : 125 < length xs → 125 < length ys → reading xs ≡ reading ys
   long_alike h k =

@@ -1,5 +1,7 @@
 -- An accepted frame is, but for its free bits, what the writer gives for it.
-use Rattle.std.proofs.Common.{◌≡◌, ℕ, zero, suc, ◌+◌, ◌-◌, ◌*◌, ◌/◌, ◌%◌, ◌<◌, ◌≤◌, not, eqb, ltb, List, [], ◌∷◌, ◌++◌, length, take, drop, set, IfOk, Ok, Err, Option, Result, sym, refl, ap, ◌∙◌, subst, append_assoc, append-nil, add-zero, mod-eq_of_lt, zero-add, div-one, arith, drop-cons}
+use Rattle.std.proofs.Common.{◌≡◌, ℕ, zero, suc, ◌+◌, ◌-◌, ◌*◌, ◌/◌, ◌%◌, ◌<◌, ◌≤◌, not, eqb, ltb, List, [], ◌∷◌, ◌++◌}
+use Rattle.std.proofs.Common.{length, take, drop, set, IfOk, Ok, Err, Option, Result, sym, refl, ap, ◌∙◌, subst}
+use Rattle.std.proofs.Common.{append_assoc, append-nil, add-zero, mod-eq_of_lt, zero-add, div-one, arith, drop-cons}
 use Rattle.std.specs.Option.{ok_or}
 use native.Mathlib.Nat.{div-div-eq-div-mul}
 use Rattle.std.proofs.lemmas.List.{drop_all}
@@ -10,14 +12,18 @@ use Rattle.frame.specs.declared.acknowledgment.Acknowledged.TheVariants as ackno
 use Rattle.frame.specs.declared.direction.Direction.{Direction}
 use Rattle.frame.specs.declared.direction.Direction.TheVariants as directions
 use Rattle.frame.specs.Directions.{direction_code, direction_of}
-use Rattle.frame.specs.Fields.{Field, address, number, direction, unused, fields_length, From, written, directed, said_by, cleared_of}
+use Rattle.frame.specs.Fields.{Field, address, number, direction, unused, fields_length, From, written, directed}
+use Rattle.frame.specs.Fields.{said_by, cleared_of}
 use Rattle.frame.specs.Formats.{Format, beacon, payload, acknowledgment, command, unlisted_state, unlisted_type}
-use Rattle.frame.specs.Formats.{unlisted_identifier, beacon_format, acknowledgment_format, command_format, coded_head, extent}
+use Rattle.frame.specs.Formats.{unlisted_identifier, beacon_format, acknowledgment_format, command_format, coded_head}
+use Rattle.frame.specs.Formats.{extent}
 use Rattle.frame.specs.Formats.{format_in, beacon_said, state_of, acknowledged_of, order_of, said, Told, unless_surplus}
 use Rattle.frame.specs.Formats.{reading_as, reading}
 use Rattle.frame.specs.FreeBits.{without, cleared_flags, cleared_as, WrittenBack}
-use Rattle.frame.specs.Messages.{Message, State, online, discovery, configuration, reset, state_code, control, octets_of}
-use Rattle.frame.specs.Messages.{Order, discover_response, configuration_status, configuration_request, identifier, type_code}
+use Rattle.frame.specs.Messages.{Message, State, online, discovery, configuration, reset, state_code, control}
+use Rattle.frame.specs.Messages.{octets_of}
+use Rattle.frame.specs.Messages.{Order, discover_response, configuration_status, configuration_request, identifier}
+use Rattle.frame.specs.Messages.{type_code}
 use Rattle.frame.specs.Messages.{fields, message_from, command_octets}
 use Rattle.frame.specs.Octets.{bits, octet, between, value, little}
 use Rattle.frame.proofs.OctetNumbers.{high_bits}
@@ -73,7 +79,8 @@ whole : (n : ℕ) (xs : List ℕ) → n ≤ length xs → length xs ≤ n → xs
 whole n xs h k =
     let start : 0 + n ≤ length xs = omega arith in
     let end : 0 + n ≡ n = zero-add n in
-    spell n 0 xs start ∙ ap (λ (l : List ℕ). spelled n 0 xs ++ l) (ap (λ (m : ℕ). drop m xs) end ∙ drop_all n xs k) ∙ append-nil (spelled n 0 xs)
+    spell n 0 xs start ∙ ap (λ (l : List ℕ). spelled n 0 xs ++ l) (ap (λ (m : ℕ). drop m xs) end ∙ drop_all n xs k) ∙
+    append-nil (spelled n 0 xs)
 
 module _ (xs : List ℕ) (below : (i : ℕ) → octet xs i < 256) where
   -- what is to be shown of what the octets read as in a format, and of what they say there
@@ -83,13 +90,18 @@ module _ (xs : List ℕ) (below : (i : ℕ) → octet xs i < 256) where
   abbrev Says : Format → Result Message Fault → Type 0
   Says φ r = IfOk r (λ m. octets_of m ≡ cleared_as φ xs)
 
-  not_surplus : (φ : Format) (r : Result Message Fault) → (length xs ≤ (extent φ).most → Says φ r) → Backs φ (unless_surplus φ xs r)
-  not_surplus φ (Ok m) f = cond_both (ltb (extent φ).most (length xs)) _ _ (Backs φ) (λ _. tt) (λ short. f (ltb-false _ _ short))
+  not_surplus : (φ : Format) (r : Result Message Fault) → (length xs ≤ (extent φ).most → Says φ r) →
+      Backs φ (unless_surplus φ xs r)
+  not_surplus φ (Ok m) f =
+      cond_both (ltb (extent φ).most (length xs)) _ _ (Backs φ) (λ _. tt) (λ short. f (ltb-false _ _ short))
   not_surplus φ (Err e) f = tt
 
   -- it is enough to look at octets of the right number
-  settle : (φ : Format) → ((extent φ).least ≤ length xs → length xs ≤ (extent φ).most → Says φ (said φ xs)) → Backs φ (reading_as φ xs)
-  settle φ k = cond_both (ltb (length xs) (extent φ).least) _ _ (Backs φ) (λ _. tt) (λ long. not_surplus φ (said φ xs) (k (ltb-false _ _ long)))
+  settle : (φ : Format) → ((extent φ).least ≤ length xs → length xs ≤ (extent φ).most → Says φ (said φ xs)) →
+      Backs φ (reading_as φ xs)
+  settle φ k =
+      cond_both (ltb (length xs) (extent φ).least) _ _ (Backs φ) (λ _. tt)
+      (λ long. not_surplus φ (said φ xs) (k (ltb-false _ _ long)))
 
   -- a full address goes out as it came
   address_back : (at : ℕ) → at + 8 ≤ length xs → little 8 (value (between at (at + 8) xs)) ≡ spelled 8 at xs
@@ -102,28 +114,39 @@ module _ (xs : List ℕ) (below : (i : ℕ) → octet xs i < 256) where
   first = without 5 1 (octet xs 0)
 
   -- the five octets of a beacon that adds nothing to its header
-  five : (s : State) (f : ℕ) → 5 ≤ length xs → length xs ≤ 5 → control 0 ≡ first → f ≡ cleared_flags s (octet xs 1) → control 0 ∷ f ∷ octet xs 2 ∷ octet xs 3 ∷ octet xs 4 ∷ [] ≡ set (set xs 0 first) 1 (cleared_flags s (octet xs 1))
+  five : (s : State) (f : ℕ) → 5 ≤ length xs → length xs ≤ 5 → control 0 ≡ first → f ≡ cleared_flags s (octet xs 1) →
+      control 0 ∷ f ∷ octet xs 2 ∷ octet xs 3 ∷ octet xs 4 ∷ [] ≡ set (set xs 0 first) 1 (cleared_flags s (octet xs 1))
   five s f long short k e =
-      (λ i. k i ∷ e i ∷ octet xs 2 ∷ octet xs 3 ∷ octet xs 4 ∷ []) ∙ sym (ap (λ (l : List ℕ). set (set l 0 first) 1 (cleared_flags s (octet xs 1))) (whole 5 xs long short))
+      (λ i. k i ∷ e i ∷ octet xs 2 ∷ octet xs 3 ∷ octet xs 4 ∷ []) ∙
+      sym (ap (λ (l : List ℕ). set (set l 0 first) 1 (cleared_flags s (octet xs 1))) (whole 5 xs long short))
 
-  beacon_says : (s : State) → control 0 ≡ first → bits 0 3 (octet xs 1) ≡ state_code s → bits 4 1 (octet xs 1) ≡ 0 → (extent (beacon s)).least ≤ length xs → length xs ≤ (extent (beacon s)).most → octets_of (beacon_said s xs) ≡ cleared_as (beacon s) xs
+  beacon_says : (s : State) → control 0 ≡ first → bits 0 3 (octet xs 1) ≡ state_code s → bits 4 1 (octet xs 1) ≡ 0 →
+      (extent (beacon s)).least ≤ length xs → length xs ≤ (extent (beacon s)).most →
+      octets_of (beacon_said s xs) ≡ cleared_as (beacon s) xs
   beacon_says online k e z long short =
       let f = plain_flags (octet xs 1) 0 (below 1) e z in
-      (λ i. k i ∷ f i ∷ octet xs 2 ∷ octet xs 3 ∷ octet xs 4 ∷ octet xs 5 ∷ drop 6 xs) ∙ sym (ap (λ (l : List ℕ). set (set l 0 first) 1 (cleared_flags online (octet xs 1))) (spell 6 0 xs long))
+      (λ i. k i ∷ f i ∷ octet xs 2 ∷ octet xs 3 ∷ octet xs 4 ∷ octet xs 5 ∷ drop 6 xs) ∙
+      sym (ap (λ (l : List ℕ). set (set l 0 first) 1 (cleared_flags online (octet xs 1))) (spell 6 0 xs long))
   beacon_says discovery k e z long short = five discovery _ long short k (wide_flags (octet xs 1) 4 (below 1) e z)
-  beacon_says configuration k e z long short = five configuration _ long short k (wide_flags (octet xs 1) 6 (below 1) e z)
+  beacon_says configuration k e z long short =
+      five configuration _ long short k (wide_flags (octet xs 1) 6 (below 1) e z)
   beacon_says reset k e z long short = five reset _ long short k (plain_flags (octet xs 1) 7 (below 1) e z)
 
-  beacon_backs : (s : State) → control 0 ≡ first → bits 0 3 (octet xs 1) ≡ state_code s → Backs (beacon s) (reading_as (beacon s) xs)
+  beacon_backs : (s : State) → control 0 ≡ first → bits 0 3 (octet xs 1) ≡ state_code s →
+      Backs (beacon s) (reading_as (beacon s) xs)
   beacon_backs s k e =
-      settle (beacon s) (λ long short. cond_both (eqb (bits 4 1 (octet xs 1)) 0) _ _ (Says (beacon s)) (λ z. beacon_says s k e (eqb-true _ _ z) long short) (λ _. tt))
+      settle (beacon s) (λ long short. cond_both (eqb (bits 4 1 (octet xs 1)) 0) _ _ (Says (beacon s))
+      (λ z. beacon_says s k e (eqb-true _ _ z) long short) (λ _. tt))
 
   data_backs : control 1 ≡ first → Backs payload (reading_as payload xs)
-  data_backs k = settle payload (λ long short. (λ i. k i ∷ drop 1 xs) ∙ sym (ap (λ (l : List ℕ). set l 0 first) (spell 1 0 xs long)))
+  data_backs k =
+      settle payload (λ long short. (λ i. k i ∷ drop 1 xs) ∙ sym (ap (λ (l : List ℕ). set l 0 first) (spell 1 0 xs long)))
 
-  acknowledgment_backs : (a : Acknowledged) → control 2 ≡ first → octet xs 1 ≡ type_code a → Backs (acknowledgment a) (reading_as (acknowledgment a) xs)
+  acknowledgment_backs : (a : Acknowledged) → control 2 ≡ first → octet xs 1 ≡ type_code a →
+      Backs (acknowledgment a) (reading_as (acknowledgment a) xs)
   acknowledgment_backs a k e =
-      settle (acknowledgment a) (λ long short. (λ i. k i ∷ sym e i ∷ []) ∙ sym (ap (λ (l : List ℕ). set l 0 first) (whole 2 xs long short)))
+      settle (acknowledgment a) (λ long short. (λ i. k i ∷ sym e i ∷ []) ∙
+      sym (ap (λ (l : List ℕ). set l 0 first) (whole 2 xs long short)))
 
   -- the octets in which fields stand from an index on, with each unused one zero
   abbrev spelled_as : List Field → ℕ → List ℕ
@@ -194,12 +217,13 @@ module _ (xs : List ℕ) (below : (i : ℕ) → octet xs i < 256) where
   command_says : (o : Order) → control 3 ≡ first → octet xs 1 ≡ identifier o → (extent (command o)).least ≤ length xs →
       length xs ≤ (extent (command o)).most → Says (command o) (said (command o) xs)
   command_says o k e long short =
-      let start : control 3 ∷ identifier o ∷ spelled_as (fields o) coded_head ≡ first ∷ octet xs 1 ∷ spelled_as (fields o) coded_head =
-      (λ i. k i ∷ sym e i ∷ spelled_as (fields o) coded_head) in
+      let behind = spelled_as (fields o) coded_head in
+      let start : control 3 ∷ identifier o ∷ behind ≡ first ∷ octet xs 1 ∷ behind = (λ i. k i ∷ sym e i ∷ behind) in
       subst (λ (l : List ℕ). Spells l (said (command o) xs)) (start ∙ rebuilt o long short)
       (fields_back (fields o) coded_head (message_from o) (control 3 ∷ identifier o ∷ []) (agree o) long)
 
-  command_backs : (o : Order) → control 3 ≡ first → octet xs 1 ≡ identifier o → Backs (command o) (reading_as (command o) xs)
+  command_backs : (o : Order) → control 3 ≡ first → octet xs 1 ≡ identifier o →
+      Backs (command o) (reading_as (command o) xs)
   command_backs o k e = settle (command o) (command_says o k e)
 
   abbrev ReadBack : Format → Type 0
@@ -209,26 +233,28 @@ module _ (xs : List ℕ) (below : (i : ℕ) → octet xs i < 256) where
   states k =
       let n = bits 0 3 (octet xs 1) in
       let P : Option State → Type 0 = λ o. ReadBack (beacon_format o) in
-      cond_both (eqb n 0) _ _ P (λ e. beacon_backs online k (eqb-true n 0 e))
-      (λ _. cond_both (eqb n 4) _ _ P (λ e. beacon_backs discovery k (eqb-true n 4 e))
-      (λ _. cond_both (eqb n 6) _ _ P (λ e. beacon_backs configuration k (eqb-true n 6 e))
-      (λ _. cond_both (eqb n 7) _ _ P (λ e. beacon_backs reset k (eqb-true n 7 e)) (λ _. settle unlisted_state (λ _ _. tt)))))
+      cond_both _ _ _ P (λ e. beacon_backs online k (eqb-true _ _ e))
+      (λ _. cond_both _ _ _ P (λ e. beacon_backs discovery k (eqb-true _ _ e))
+      (λ _. cond_both _ _ _ P (λ e. beacon_backs configuration k (eqb-true _ _ e))
+      (λ _. cond_both _ _ _ P (λ e. beacon_backs reset k (eqb-true _ _ e)) (λ _. settle unlisted_state (λ _ _. tt)))))
 
   types : control 2 ≡ first → ReadBack (acknowledgment_format (acknowledged_of (octet xs 1)))
   types k =
       let n = octet xs 1 in
       let P : Option Acknowledged → Type 0 = λ o. ReadBack (acknowledgment_format o) in
-      cond_both (eqb n 1) _ _ P (λ e. acknowledgment_backs acknowledged.Data k (eqb-true n 1 e))
-      (λ _. cond_both (eqb n 13) _ _ P (λ e. acknowledgment_backs acknowledged.DiscoverResponse k (eqb-true n 13 e))
-      (λ _. cond_both (eqb n 15) _ _ P (λ e. acknowledgment_backs acknowledged.ConfigurationRequest k (eqb-true n 15 e)) (λ _. settle unlisted_type (λ _ _. tt))))
+      cond_both _ _ _ P (λ e. acknowledgment_backs acknowledged.Data k (eqb-true _ _ e))
+      (λ _. cond_both _ _ _ P (λ e. acknowledgment_backs acknowledged.DiscoverResponse k (eqb-true _ _ e))
+      (λ _. cond_both _ _ _ P (λ e. acknowledgment_backs acknowledged.ConfigurationRequest k (eqb-true _ _ e))
+      (λ _. settle unlisted_type (λ _ _. tt))))
 
   orders : control 3 ≡ first → ReadBack (command_format (order_of (octet xs 1)))
   orders k =
       let n = octet xs 1 in
       let P : Option Order → Type 0 = λ o. ReadBack (command_format o) in
-      cond_both (eqb n 13) _ _ P (λ e. command_backs discover_response k (eqb-true n 13 e))
-      (λ _. cond_both (eqb n 14) _ _ P (λ e. command_backs configuration_status k (eqb-true n 14 e))
-      (λ _. cond_both (eqb n 15) _ _ P (λ e. command_backs configuration_request k (eqb-true n 15 e)) (λ _. settle unlisted_identifier (λ _ _. tt))))
+      cond_both _ _ _ P (λ e. command_backs discover_response k (eqb-true _ _ e))
+      (λ _. cond_both _ _ _ P (λ e. command_backs configuration_status k (eqb-true _ _ e))
+      (λ _. cond_both _ _ _ P (λ e. command_backs configuration_request k (eqb-true _ _ e))
+      (λ _. settle unlisted_identifier (λ _ _. tt))))
 
   formats : bits 0 3 (octet xs 0) ≡ 4 → bits 3 2 (octet xs 0) ≡ 0 → ReadBack (format_in xs)
   formats lldn free =
@@ -238,7 +264,8 @@ module _ (xs : List ℕ) (below : (i : ℕ) → octet xs i < 256) where
       cond_both (eqb n 0) _ _ ReadBack (λ e. states (control_is c 0 (below 0) lldn free (eqb-true n 0 e)))
       (λ n0. cond_both (eqb n 1) _ _ ReadBack (λ e. data_backs (control_is c 1 (below 0) lldn free (eqb-true n 1 e)))
       (λ n1. cond_both (eqb n 2) _ _ ReadBack (λ e. types (control_is c 2 (below 0) lldn free (eqb-true n 2 e)))
-      (λ n2. orders (control_is c 3 (below 0) lldn free (last n small (eqb-false n 0 n0) (eqb-false n 1 n1) (eqb-false n 2 n2))))))
+      (λ n2. orders (control_is c 3 (below 0) lldn free
+      (last n small (eqb-false n 0 n0) (eqb-false n 1 n1) (eqb-false n 2 n2))))))
     where
       last : (n : ℕ) → n < 4 → (n ≡ 0 → ⊥) → (n ≡ 1 → ⊥) → (n ≡ 2 → ⊥) → n ≡ 3
       last n h a b d = omega arith

@@ -54,7 +54,8 @@ abbrev pub said_by : {M : Type 0} → (fields : List Field) → ℕ → List ℕ
 said_by [] at xs m = Ok m
 said_by (address ∷ fields) at xs f = said_by fields (at + 8) xs (f (value (between at (at + 8) xs)))
 said_by (number ∷ fields) at xs f = said_by fields (at + 1) xs (f (octet xs at))
-said_by (direction ∷ fields) at xs f = directed (direction_from (octet xs at) at) (λ d. said_by fields (at + 1) xs (f d))
+said_by (direction ∷ fields) at xs f =
+    directed (direction_from (octet xs at) at) (λ d. said_by fields (at + 1) xs (f d))
 said_by (unused ∷ fields) at xs f = said_by fields (at + 1) xs f
 
 -- octets in which fields stand from an index on, with each unused octet zero

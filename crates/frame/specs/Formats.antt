@@ -1,5 +1,6 @@
 -- What received octets say, or the first refusal in the order of the list.
-use Rattle.std.specs.Prelude.{ℕ, ◌+◌, cond, not, List, [], ◌∷◌, length, drop, Some, None, Ok, Err, Option, Result, ◌==◌, nat_lt}
+use Rattle.std.specs.Prelude.{ℕ, ◌+◌, cond, not, List, [], ◌∷◌, length, drop, Some, None, Ok, Err, Option, Result, ◌==◌}
+use Rattle.std.specs.Prelude.{nat_lt}
 use Rattle.frame.specs.declared.acknowledgment.Acknowledged.{Acknowledged}
 use Rattle.frame.specs.declared.acknowledgment.Acknowledged.TheVariants as acknowledged
 use Rattle.frame.specs.declared.beacon.BeaconHeader.{BeaconHeader}
@@ -100,7 +101,8 @@ abbrev pub format_of : ℕ → ℕ → Format
 format_of subtype second =
     cond (subtype == beacon_subtype) (beacon_format (state_of (bits 0 3 second)))
     (cond (subtype == data_subtype) payload
-    (cond (subtype == acknowledgment_subtype) (acknowledgment_format (acknowledged_of second)) (command_format (order_of second))))
+    (cond (subtype == acknowledgment_subtype) (acknowledgment_format (acknowledged_of second))
+    (command_format (order_of second))))
 
 -- the format of octets: the subtype is in bits 6 and 7 of the control octet
 abbrev pub format_in : List ℕ → Format
@@ -119,7 +121,8 @@ beacon_said discovery xs = discovery_beacon (header_in xs) (bits 5 3 (octet xs 1
 beacon_said configuration xs = configuration_beacon (header_in xs) (bits 5 3 (octet xs 1))
 beacon_said reset xs = reset_beacon (header_in xs)
 
--- what octets of a format say, or the place of a number in them that is not listed; bit 4 of a beacon's flags has to be zero
+-- what octets of a format say, or the place of a number in them that is not listed;
+-- bit 4 of a beacon's flags has to be zero
 abbrev pub said : Format → List ℕ → Result Message Fault
 said (beacon s) xs = cond (bits 4 1 (octet xs 1) == 0) (Ok (beacon_said s xs)) (Err (fault refusal.Kind 1))
 said payload xs = Ok (data_frame (tail_in payload xs))

@@ -5,6 +5,7 @@ use Rattle.frame.specs.declared.acknowledgment.Acknowledged.TheVariants as ackno
 use Rattle.frame.specs.declared.beacon.BeaconHeader.{BeaconHeader}
 use Rattle.frame.specs.declared.command.Command.{Command}
 use Rattle.frame.specs.declared.command.Command.TheVariants as commands
+use Rattle.frame.specs.declared.command.Wish.{Wish}
 use Rattle.frame.specs.declared.beacon.ManagementState.{ManagementState}
 use Rattle.frame.specs.declared.beacon.ManagementState.TheVariants as management
 use Rattle.frame.specs.Fields as field
@@ -75,7 +76,8 @@ message_from discover_response =
     command_frame (commands.DiscoverResponse address (record { width = width; direction = direction }))
 message_from configuration_status =
     λ address simple width direction first slots.
-    command_frame (commands.ConfigurationStatus address simple (record { width = width; direction = direction }) first slots)
+    let wish : Wish = record { width = width; direction = direction } in
+    command_frame (commands.ConfigurationStatus address simple wish first slots)
 message_from configuration_request =
     λ address simple channel size first width retransmission uplink timeslots coordinator.
     command_frame (commands.ConfigurationRequest address (record {

@@ -46,7 +46,9 @@ layer_name layer.End = codes "end"
 
 -- a number, the name of a refusal, a place and a layer as text
 abbrev pub fault_parts : ℕ → Refusal → ℕ → Layer → List ℕ
-fault_parts number r place l = decimal number ++ (codes " " ++ ((listed r).name ++ (codes " at " ++ (decimal place ++ (codes " in " ++ layer_name l)))))
+fault_parts number r place l =
+    decimal number ++
+    (codes " " ++ ((listed r).name ++ (codes " at " ++ (decimal place ++ (codes " in " ++ layer_name l)))))
 
 -- a fault as text: `10 Short at 2 in frame`
 abbrev pub fault_text : Fault → List ℕ

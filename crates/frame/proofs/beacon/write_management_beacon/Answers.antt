@@ -10,4 +10,5 @@ returns c =
     let by_state = ap (λ (s : State). beacon_octets s c.into-2.result h []) c.into.ensures in
     let by_width = ap (λ (g : ℕ). beacon_octets (management_state c.args.state) g h []) c.into-2.ensures.0 in
     let same = append-nil c.beacon_head.result ∙ c.beacon_head.ensures ∙ by_state ∙ by_width in
-    written_managing c.args.state h (width_of c.args.management) _ _ _ _ same c.args.management.narrow c.put.ensures.answer c.put.ensures.memory
+    written_managing c.args.state h (width_of c.args.management) _ _ _ _
+    same c.args.management.narrow c.put.ensures.answer c.put.ensures.memory

@@ -10,7 +10,8 @@ pub returns-in-ConfigurationStatus : goal.returns-in-ConfigurationStatus
 returns-in-ConfigurationStatus c =
     let status = c.in-ConfigurationStatus in
     let put = c.put_command-in-ConfigurationStatus.ensures in
-    let direction = λ (d : ℕ).
-    octets_with configuration_status status.address (status.simple ∷ status.wish.width ∷ d ∷ status.first ∷ status.width ∷ []) in
-    let message = command_frame (commands.ConfigurationStatus status.address status.simple status.wish status.first status.width) in
-    rw status.is (written message _ _ _ _ (ap direction c.into-in-ConfigurationStatus.ensures) put.fits (lit≤ tt) put.answer put.memory)
+    let numbers = λ (d : ℕ). status.simple ∷ status.wish.width ∷ d ∷ status.first ∷ status.width ∷ [] in
+    let same =
+    ap (λ (d : ℕ). octets_with configuration_status status.address (numbers d)) c.into-in-ConfigurationStatus.ensures in
+    let said = commands.ConfigurationStatus status.address status.simple status.wish status.first status.width in
+    rw status.is (written (command_frame said) _ _ _ _ same put.fits (lit≤ tt) put.answer put.memory)

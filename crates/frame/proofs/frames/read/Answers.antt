@@ -14,6 +14,8 @@ returns c =
     let e : seen c.read_subtype.result ≡ reading xs = search rules in
     record {
       answer = e;
-      written_back = subst (λ (r : Result Told Fault). WrittenBack xs r) (sym e) (written_back xs (λ i. omega (arith, c.type_inv.octets i)));
+      written_back =
+          subst (λ (r : Result Told Fault). WrittenBack xs r) (sym e)
+          (written_back xs (λ i. omega (arith, c.type_inv.octets i)));
       told_by_start = e ∙ told_by_start xs;
     }
