@@ -1,8 +1,8 @@
 -- The tally of a capture.
 use Rattle.std.specs.Prelude.{ℕ, ◌+◌, ◌-◌, ◌^◌, min, List, ◌++◌, codes, decimal}
-use Rattle.capture.specs.declared.reports.Report.{Report}
-use Rattle.capture.specs.declared.reports.Report.TheVariants as report
-use Rattle.capture.specs.declared.tallies.Tally.{Tally}
+use Rattle.capture.specs.declared.report.Report.{Report}
+use Rattle.capture.specs.declared.report.Report.TheVariants as report
+use Rattle.capture.specs.declared.tally.Tally.{Tally}
 
 -- a sum that stops at the largest number of 64 bits
 abbrev pub capped : ℕ → ℕ → ℕ

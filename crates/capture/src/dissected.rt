@@ -1,6 +1,6 @@
 // A frame taken apart, as text.
 ghost use Rattle.std.specs.Prelude.{Some};
-ghost use Rattle.capture.specs.Texts.{part_text, address_text, start_text, header_text, addressed_text, grant_text, plan_text, beacon_text, command_text, frame_text};
+ghost use Rattle.capture.specs.FrameTexts.{part_text, address_text, start_text, header_text, addressed_text, grant_text, plan_text, beacon_text, command_text, frame_text};
 
 use frame::{BeaconHeader, BeaconState, Command, Configuration, Frame, Part, Wish};
 use hexadecimal::Hex;

@@ -6,7 +6,7 @@ use Rattle.hexadecimal.specs.declared.line.HexLine.{HexLine}
 use Rattle.hexadecimal.specs.Grammar.{octets_in}
 use Rattle.hexadecimal.specs.LineOf.{LineTold, skipped, not_octets, these_octets, by_octets, told_by, line_of, kept}
 use Rattle.hexadecimal.specs.Reading.{is_empty, Stands, Read}
-use Rattle.hexadecimal.proofs.Spelling.{is_more, joined, digit_not, return_after, stays, no_return, plain_front, plain_mid, tells}
+use Rattle.hexadecimal.proofs.OctetsOfLongerText.{is_more, joined, digit_not, return_after, stays, no_return, plain_front, plain_mid, tells}
 
 -- the answer at each place
 abbrev pub answer : Progress → List ℕ → LineTold

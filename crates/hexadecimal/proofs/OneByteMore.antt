@@ -5,7 +5,7 @@ use Rattle.hexadecimal.specs.declared.line.Progress.TheVariants.{Comment, Whole,
 use Rattle.hexadecimal.specs.Grammar.{digit_value, octet_of, before, octets_in}
 use Rattle.hexadecimal.specs.LineOf.{not_octets, without_return, by_octets, told_by, line_of}
 use Rattle.hexadecimal.specs.Reading.{Stands}
-use Rattle.hexadecimal.proofs.Spelling.{is_more, joined, digit_not, return_after, stays, stops, no_octet, plain, plain_front, plain_mid, spells_append, tells}
+use Rattle.hexadecimal.proofs.OctetsOfLongerText.{is_more, joined, digit_not, return_after, stays, stops, no_octet, plain, plain_front, plain_mid, spells_append, tells}
 
 pub space_on : (text spelled : List ℕ) → octets_in text ≡ Some spelled → Stands Whole (text ++ 32 ∷ []) spelled
 space_on text spelled h = (is_more text 32, spells_append text (32 ∷ []) spelled h ∙ ap Some (append-nil spelled))

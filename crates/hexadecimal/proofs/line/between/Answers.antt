@@ -2,7 +2,7 @@
 use Rattle.std.proofs.Common.{◌≡◌, ℕ, false, [], ◌∷◌, ◌++◌, Option, None, Some, is_some, refl, sym, ◌∙◌, subst}
 use Rattle.hexadecimal.specs.declared.line.Progress.TheVariants.{Whole}
 use Rattle.hexadecimal.specs.Reading.{Stands}
-use Rattle.hexadecimal.proofs.Going.{space_on, break_on}
+use Rattle.hexadecimal.proofs.OneByteMore.{space_on, break_on}
 use Rattle.hexadecimal.proofs.line.reading.between.Goals as goal
 
 pub returns-then-byte-eq32 : goal.returns-then-byte-eq32

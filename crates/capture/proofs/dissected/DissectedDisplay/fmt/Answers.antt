@@ -1,5 +1,5 @@
 -- The digits of an acknowledgment's octet.
-use Rattle.capture.proofs.Codes.{type_digits}
+use Rattle.capture.proofs.AcknowledgmentDigits.{type_digits}
 use Rattle.capture.proofs.shown.DissectedDisplay.fmt.Goals as goal
 
 pub returns-in-Acknowledgment-clause-writes : goal.returns-in-Acknowledgment-clause-writes

@@ -5,7 +5,7 @@ use Rattle.std.specs.Option.{option_map}
 use Rattle.std.proofs.Output.{has_written_append, has_written_of_eq}
 use Rattle.std.proofs.lemmas.Fmt.{hex_byte}
 use Rattle.hexadecimal.specs.Grammar.{octet_digits, spelling}
-use Rattle.hexadecimal.proofs.Showing.{spelling_more}
+use Rattle.hexadecimal.proofs.DigitsOfOctets.{spelling_more}
 use Rattle.hexadecimal.proofs.show.HexDisplay.fmt.Goals as goal
 
 pub loop-octet-preserved : goal.loop-octet-preserved

@@ -1,6 +1,6 @@
 -- A reader that has left the first place has read something.
 use Rattle.std.proofs.Common.{sym, ◌∙◌}
-use Rattle.hexadecimal.proofs.Telling.{not_untouched, untouched_at}
+use Rattle.hexadecimal.proofs.LineFromProgress.{not_untouched, untouched_at}
 use Rattle.hexadecimal.proofs.line.HexLine.is_untouched.Goals as goal
 
 pub returns-in_default : goal.returns-in_default

@@ -1,7 +1,7 @@
 -- The octets that are kept, with one more.
 use Rattle.std.proofs.Common.{◌<◌, ◌≡◌, length, ◌∙◌, arith}
 use Rattle.std.proofs.lemmas.Bool.Decides.{nat_tests}
-use Rattle.hexadecimal.proofs.Keeping.{kept_room, kept_full}
+use Rattle.hexadecimal.proofs.FirstOctetsKept.{kept_room, kept_full}
 use Rattle.hexadecimal.proofs.line.HexLine.keep.Goals as goal
 
 pub returns-then-not-is_full-clause-stores : goal.returns-then-not-is_full-clause-stores

@@ -4,8 +4,8 @@ use Rattle.hexadecimal.specs.declared.line.Progress.{Progress}
 use Rattle.hexadecimal.specs.declared.line.Progress.TheVariants.{Half, LoneReturn, WholeReturn, Broken}
 use Rattle.hexadecimal.specs.declared.line.HexLine.{HexLine}
 use Rattle.hexadecimal.specs.Reading.{Read, Stands}
-use Rattle.hexadecimal.proofs.Going.{octet_on, half_broken, lone_broken, whole_broken, still_broken}
-use Rattle.hexadecimal.proofs.Keeping.{take_again}
+use Rattle.hexadecimal.proofs.OneByteMore.{octet_on, half_broken, lone_broken, whole_broken, still_broken}
+use Rattle.hexadecimal.proofs.FirstOctetsKept.{take_again}
 use Rattle.hexadecimal.proofs.line.HexLine.push.Goals as goal
 
 -- what was read, by the place
