@@ -1,6 +1,5 @@
 // What a command line says to read, and how a program ends.
 use clap::{Arg, Command};
-use std::fmt::Display;
 use std::io::ErrorKind;
 use std::process::ExitCode;
 use std::rt::{Env, Files};
@@ -44,10 +43,7 @@ impl Program {
     ) -> Result<Source<R::File>, ExitCode> {
         match self.asked(rt) {
             Ok(Asked::Read(None)) => Ok(Source::StandardInput),
-            Ok(Asked::Read(Some(path))) => match fs::open(rt, path.as_str()) {
-                Ok(file) => Ok(Source::File(file)),
-                Err(error) => Err(self.fail(rt, format_args!("{path}: {error}"))),
-            },
+            Ok(Asked::Read(Some(path))) => self.open(rt, path.as_str()),
             Ok(Asked::End(status)) => Err(status),
             Err(error) => Err(self.end(rt, Err(error))),
         }
@@ -59,16 +55,25 @@ impl Program {
         match ran {
             Ok(()) => ExitCode::SUCCESS,
             Err(error) if error.kind() == ErrorKind::BrokenPipe => ExitCode::SUCCESS,
-            Err(error) => self.fail(rt, error),
+            Err(error) => {
+                let name = self.name;
+                // Where standard error cannot be written either, the status alone tells it.
+                let _ = rt.eprintln(format_args!("{name}: {error}"));
+                ExitCode::FAILURE
+            }
         }
     }
 
-    // Tells what went wrong.
-    fn fail<R: Eprint>(&self, rt: &R, reason: impl Display + Drop) -> ExitCode {
-        let name = self.name;
-        // Where standard error cannot be written either, the status alone tells it.
-        let _ = rt.eprintln(format_args!("{name}: {reason}"));
-        ExitCode::FAILURE
+    // Opens a file.
+    fn open<R: Files + Eprint>(&self, rt: &R, path: &str) -> Result<Source<R::File>, ExitCode> {
+        match fs::open(rt, path) {
+            Ok(file) => Ok(Source::File(file)),
+            Err(error) => {
+                let name = self.name;
+                let _ = rt.eprintln(format_args!("{name}: {path}: {error}"));
+                Err(ExitCode::FAILURE)
+            }
+        }
     }
 
     // What the command line asks for.

@@ -6,7 +6,7 @@ use crate::any_network::AnyNetwork;
 use crate::any_plan::AnyPlan;
 use crate::cargo_commands::{image, read};
 use crate::obstacle::{Obstacle, Stop};
-use plan::{EvenPlan, Grant, ListedPlan, Numbers, SlotPlan};
+use plan::{EvenGrants, EvenPlan, Grant, ListedPlan, Numbers, SlotPlan};
 use repeats::{GroupAcknowledgment, sender};
 use script::{CargoKind, Request};
 use std::alloc::Global;
@@ -89,13 +89,11 @@ impl Console {
             Request::Listed(numbers) => self.start(numbers),
             Request::Grant(grant) => self.add(grant),
             Request::Plan => self.make_listed(answers),
-            Request::Even { numbers, grants } => {
-                self.accept(AnyPlan::Even(EvenPlan::new(numbers, grants)?), answers)
-            }
-            Request::Timetable => self.accepted()?.plan.tell_timetable(answers),
-            Request::Holder(t) => answers.grant_or(self.accepted()?.plan.holder(t), "none"),
-            Request::Repeats(octets) => self.repeat(octets.as_slice(), answers),
-            Request::Sender(t) => self.send(t, answers),
+            Request::Even { numbers, grants } => self.make_even(numbers, grants, answers),
+            Request::Timetable => self.tell_timetable(answers),
+            Request::Holder(t) => self.tell_holder(t, answers),
+            Request::Repeats(octets) => self.tell_repeats(octets.as_slice(), answers),
+            Request::Sender(t) => self.tell_sender(t, answers),
             Request::Image(offer) => image(offer, answers),
             Request::Read {
                 kind,
@@ -135,6 +133,28 @@ impl Console {
         self.accept(AnyPlan::Listed(plan), answers)
     }
 
+    // Makes an even plan.
+    fn make_even(
+        &mut self,
+        numbers: Numbers,
+        grants: EvenGrants,
+        answers: &mut Answers<'_>,
+    ) -> Result<(), Stop> {
+        let plan = EvenPlan::new(numbers, grants)?;
+        self.accept(AnyPlan::Even(plan), answers)
+    }
+
+    // Tells the timetable of the plan.
+    fn tell_timetable(&self, answers: &mut Answers<'_>) -> Result<(), Stop> {
+        self.accepted()?.plan.tell_timetable(answers)
+    }
+
+    // Tells who holds a timeslot.
+    fn tell_holder(&self, t: u8, answers: &mut Answers<'_>) -> Result<(), Stop> {
+        let holder = self.accepted()?.plan.holder(t);
+        answers.grant_or(holder, "none")
+    }
+
     // Takes a plan for the one that is asked from now on.
     fn accept(&mut self, plan: AnyPlan, answers: &mut Answers<'_>) -> Result<(), Stop> {
         let count = plan.count();
@@ -143,7 +163,7 @@ impl Console {
     }
 
     // Tells who repeats where by a bitmap, and keeps it if it fits.
-    fn repeat(&mut self, octets: &[u8], answers: &mut Answers<'_>) -> Result<(), Stop> {
+    fn tell_repeats(&mut self, octets: &[u8], answers: &mut Answers<'_>) -> Result<(), Stop> {
         let accepted = self.accepted.as_mut().ok_or(Obstacle::NoPlan)?;
         let numbers = accepted.plan.numbers();
         let bitmap = GroupAcknowledgment { numbers, octets };
@@ -155,7 +175,7 @@ impl Console {
     }
 
     // Tells whose frame starts at a timeslot by the bitmap that was kept.
-    fn send(&self, t: u8, answers: &mut Answers<'_>) -> Result<(), Stop> {
+    fn tell_sender(&self, t: u8, answers: &mut Answers<'_>) -> Result<(), Stop> {
         let accepted = self.accepted()?;
         let bitmap = accepted.bitmap.as_ref().ok_or(Obstacle::NoBitmap)?;
         answers.grant_or(sender(&accepted.plan, bitmap.as_slice(), t), "nobody")

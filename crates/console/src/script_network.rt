@@ -8,14 +8,14 @@ use coordinator::{Heard, Mode};
 use frame::Wish;
 use hexadecimal::Hex;
 use hosts::CoordinatorHost;
-use script::{CoordinatorOrder, DeviceOrder, FrameWord, NetworkMode, NetworkOrder};
+use script::{CoordinatorOrder, DeviceOrder, FrameWord, GivenCargo, NetworkMode, NetworkOrder};
 use std::alloc::{AllocError, Global};
 
 // A network. It has to be finished, for its coordinator.
 pub(crate) struct ScriptNetwork<C> {
     heap: Global,
     host: CoordinatorHost<AnyPlan>,
-    stations: Vec<NamedDevice<C>>,
+    devices: Vec<NamedDevice<C>>,
     // The beacon that was opened last.
     beacon: Option<Vec<u8>>,
     // The coordinator's last reply to a management frame.
@@ -28,7 +28,7 @@ impl<C: Carried> ScriptNetwork<C> {
         ScriptNetwork {
             heap,
             host: CoordinatorHost::new::<C>(plan),
-            stations: Vec::new(heap),
+            devices: Vec::new(heap),
             beacon: None,
             reply: None,
         }
@@ -42,7 +42,7 @@ impl<C: Carried> ScriptNetwork<C> {
         let ScriptNetwork {
             heap: _,
             host,
-            stations: _,
+            devices: _,
             beacon: _,
             reply: _,
         } = self;
@@ -93,35 +93,76 @@ impl<C: Carried> ScriptNetwork<C> {
         answers: &mut Answers<'_>,
     ) -> Result<(), Stop> {
         match order {
-            DeviceOrder::Beacon(word) => {
-                let frame = self.frame(&word)?;
-                let station = self.station(name)?;
-                station.beacon(frame.ok_or(Obstacle::NoFrame)?.as_slice(), answers)
-            }
-            DeviceOrder::Missed => self.station(name)?.missed(answers),
-            DeviceOrder::Offer(offer) => self.station(name)?.offer(C::given(offer)?, answers),
-            DeviceOrder::Send { timeslot, space } => {
-                let buffer = self.buffer(space)?;
-                self.station(name)?.send(timeslot, buffer, answers)
-            }
-            DeviceOrder::Write(space) => {
-                let buffer = self.buffer(space)?;
-                self.station(name)?.write(buffer, answers)
-            }
-            DeviceOrder::Take(word) => {
-                let frame = self.frame(&word)?;
-                let station = self.station(name)?;
-                station.take(frame.ok_or(Obstacle::NoFrame)?.as_slice(), answers)
-            }
-            DeviceOrder::Phase => self.station(name)?.tell_phase(answers),
+            DeviceOrder::Beacon(word) => self.beacon(name, &word, answers),
+            DeviceOrder::Missed => self.missed(name, answers),
+            DeviceOrder::Offer(cargo) => self.offer(name, cargo, answers),
+            DeviceOrder::Send { timeslot, space } => self.send(name, timeslot, space, answers),
+            DeviceOrder::Write(space) => self.write(name, space, answers),
+            DeviceOrder::Take(word) => self.take(name, &word, answers),
+            DeviceOrder::Phase => self.tell_phase(name, answers),
         }
     }
 
+    fn beacon(
+        &mut self,
+        name: &str,
+        word: &FrameWord<'_>,
+        answers: &mut Answers<'_>,
+    ) -> Result<(), Stop> {
+        let frame = self.frame(word)?;
+        let device = self.device(name)?;
+        device.beacon(frame.ok_or(Obstacle::NoFrame)?.as_slice(), answers)
+    }
+
+    fn missed(&mut self, name: &str, answers: &mut Answers<'_>) -> Result<(), Stop> {
+        self.device(name)?.missed(answers)
+    }
+
+    fn offer(
+        &mut self,
+        name: &str,
+        cargo: GivenCargo,
+        answers: &mut Answers<'_>,
+    ) -> Result<(), Stop> {
+        self.device(name)?.offer(C::given(cargo)?, answers)
+    }
+
+    fn send(
+        &mut self,
+        name: &str,
+        timeslot: u8,
+        space: usize,
+        answers: &mut Answers<'_>,
+    ) -> Result<(), Stop> {
+        let buffer = self.buffer(space)?;
+        self.device(name)?.send(timeslot, buffer, answers)
+    }
+
+    fn write(&mut self, name: &str, space: usize, answers: &mut Answers<'_>) -> Result<(), Stop> {
+        let buffer = self.buffer(space)?;
+        self.device(name)?.write(buffer, answers)
+    }
+
+    fn take(
+        &mut self,
+        name: &str,
+        word: &FrameWord<'_>,
+        answers: &mut Answers<'_>,
+    ) -> Result<(), Stop> {
+        let frame = self.frame(word)?;
+        let device = self.device(name)?;
+        device.take(frame.ok_or(Obstacle::NoFrame)?.as_slice(), answers)
+    }
+
+    fn tell_phase(&mut self, name: &str, answers: &mut Answers<'_>) -> Result<(), Stop> {
+        self.device(name)?.tell_phase(answers)
+    }
+
     // The device with a name.
-    fn station(&mut self, name: &str) -> Result<&mut NamedDevice<C>, Obstacle> {
-        self.stations
+    fn device(&mut self, name: &str) -> Result<&mut NamedDevice<C>, Obstacle> {
+        self.devices
             .iter_mut()
-            .find(|station| station.has_name(name))
+            .find(|device| device.has_name(name))
             .ok_or(Obstacle::NoDevice)
     }
 
@@ -138,8 +179,8 @@ impl<C: Carried> ScriptNetwork<C> {
 
     // What the device with a name wrote last.
     fn wrote(&self, name: &str) -> Result<Option<&[u8]>, Obstacle> {
-        let station = self.stations.iter().find(|station| station.has_name(name));
-        Ok(station.ok_or(Obstacle::NoDevice)?.wrote.as_deref())
+        let device = self.devices.iter().find(|device| device.has_name(name));
+        Ok(device.ok_or(Obstacle::NoDevice)?.wrote.as_deref())
     }
 
     // A buffer of some length.
@@ -155,12 +196,11 @@ impl<C: Carried> ScriptNetwork<C> {
         wish: Wish,
         answers: &mut Answers<'_>,
     ) -> Result<(), Stop> {
-        let taken = |station: &NamedDevice<C>| station.has_name(name)
-            || station.has_address(address);
-        if self.stations.iter().any(taken) {
+        let taken = |device: &NamedDevice<C>| device.has_name(name) || device.has_address(address);
+        if self.devices.iter().any(taken) {
             return Err(Obstacle::Taken.into());
         }
-        self.stations
+        self.devices
             .push(NamedDevice::new(self.heap, name, address, wish)?)?;
         answers.line(format_args!("device {name} Idle"))
     }
@@ -237,8 +277,8 @@ impl<C: Carried> ScriptNetwork<C> {
     }
 
     fn tell_tallies(&self, answers: &mut Answers<'_>) -> Result<(), Stop> {
-        for station in self.stations.iter() {
-            station.tell_tally(answers)?;
+        for device in self.devices.iter() {
+            device.tell_tally(answers)?;
         }
         Ok(())
     }

@@ -1,4 +1,6 @@
 // The command that a line of the script is.
+ghost use Rattle.std.specs.Prelude.{IsUtf8, IfOk};
+
 use crate::cargo_kind::CargoKind;
 use crate::given_cargo::GivenCargo;
 use crate::given_octets::GivenOctets;
@@ -70,7 +72,10 @@ pub struct HallRun {
 
 impl<'a> Request<'a> {
     /// The command in a line, or none in an empty line or a comment. The line may end with its line feed.
-    pub fn of(line: &'a [u8]) -> Result<Option<Request<'a>>, Misread<'a>> {
+    /// All of a line that is understood is text, its comment too.
+    pub fn of(line: &'a [u8]) -> Result<Option<Request<'a>>, Misread<'a>>
+        ensures { IfOk result (λ _. IsUtf8 line.now) }
+    {
         let text = from_utf8(line).map_err(|_| Misread::NoText)?;
         let mut words = LineWords::of(text);
         let Some(command) = words.next() else {
@@ -84,7 +89,7 @@ impl<'a> Request<'a> {
     }
 }
 
-// A command and the parameters that it takes from the words behind it.
+// A command and the parameters that it takes from the words behind it: here those about plans.
 fn request_in<'a>(words: &mut LineWords<'a>, command: &'a str) -> Result<Request<'a>, Misread<'a>> {
     match command {
         "listed" => Ok(Request::Listed(numbers(words)?)),
@@ -96,11 +101,31 @@ fn request_in<'a>(words: &mut LineWords<'a>, command: &'a str) -> Result<Request
         }),
         "timetable" => Ok(Request::Timetable),
         "holder" => Ok(Request::Holder(words.number("T")?)),
+        _ => octets_request(words, command),
+    }
+}
+
+// Those about bitmaps and cargo.
+fn octets_request<'a>(
+    words: &mut LineWords<'a>,
+    command: &'a str,
+) -> Result<Request<'a>, Misread<'a>> {
+    match command {
         "repeats" => Ok(Request::Repeats(words.octets()?)),
         "sender" => Ok(Request::Sender(words.number("T")?)),
         "image" => Ok(Request::Image(GivenCargo::after_kind(words)?)),
         "read" => read(words, CargoSource::Image),
         "receive" => read(words, CargoSource::Frame),
+        _ => network_request(words, command),
+    }
+}
+
+// Those about networks.
+fn network_request<'a>(
+    words: &mut LineWords<'a>,
+    command: &'a str,
+) -> Result<Request<'a>, Misread<'a>> {
+    match command {
         "cargo" => Ok(Request::Cargo(words.kind()?)),
         "coordinator" => Ok(Request::Coordinator),
         "hall" => Ok(Request::Hall(hall_run(words)?)),
