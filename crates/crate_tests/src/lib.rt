@@ -1,5 +1,5 @@
-// Tests of the crates below, by their public faces: here they are proved once, and no crate is proved twice for its tests.
+//! Tests of crates by their public calls, which would make those crates be proved twice if they stood in them.
 #![tactic(auto)]
 
 #[cfg(test)]
-mod coordinator;
+mod console_answers;

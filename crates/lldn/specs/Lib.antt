@@ -1,2 +1,0 @@
-pub mod Hosts
-pub mod Plans
