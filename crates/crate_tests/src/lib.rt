@@ -3,3 +3,7 @@
 
 #[cfg(test)]
 mod console_answers;
+#[cfg(test)]
+mod coordinator_tests;
+#[cfg(test)]
+mod device_tests;
