@@ -2,7 +2,7 @@
 use Rattle.std.proofs.Common.{ap, ◌∙◌, inl, inr}
 use Rattle.hexadecimal.specs.declared.line.Progress.TheVariants.{Whole, Half, WholeReturn, Broken}
 use Rattle.hexadecimal.specs.LineOf.{these_octets}
-use Rattle.hexadecimal.proofs.Telling.{told_there}
+use Rattle.hexadecimal.proofs.LineFromProgress.{told_there}
 use Rattle.hexadecimal.proofs.line.HexLine.told.Goals as goal
 
 pub returns-in-Whole : goal.returns-in-Whole

@@ -1,0 +1,5 @@
+//! Tests of the crates below, through their public faces.
+#![tactic(auto)]
+
+#[cfg(test)]
+mod hexadecimal;
