@@ -6,9 +6,9 @@ use Rattle.frame.specs.Formats.{Told, reading}
 use Rattle.frame.specs.Refusals.{fault_text}
 use Rattle.frame.specs.Views.{told}
 use Rattle.hexadecimal.specs.LineOf.{LineTold, skipped, not_octets, these_octets}
-use Rattle.capture.specs.declared.reports.Report.{Report}
-use Rattle.capture.specs.declared.reports.Report.TheVariants as report
-use Rattle.capture.specs.Texts.{frame_text}
+use Rattle.capture.specs.declared.report.Report.{Report}
+use Rattle.capture.specs.declared.report.Report.TheVariants as report
+use Rattle.capture.specs.FrameTexts.{frame_text}
 
 -- a report: the line is no octets, or its octets read as this
 pub data Reported : Type 0 where

@@ -1,8 +1,8 @@
 -- The tally of a capture.
 use Rattle.std.specs.Prelude.{ℕ, ◌+◌, ◌-◌, ◌^◌, min, List, ◌++◌, codes, decimal}
-use Rattle.capture.specs.declared.reports.Report.{Report}
-use Rattle.capture.specs.declared.reports.Report.TheVariants as report
-use Rattle.capture.specs.declared.tallies.Tally.{Tally}
+use Rattle.capture.specs.declared.report.Report.{Report}
+use Rattle.capture.specs.declared.report.Report.TheVariants as report
+use Rattle.capture.specs.declared.tally.Tally.{Tally}
 
 -- a sum that stops at the largest number of 64 bits
 abbrev pub capped : ℕ → ℕ → ℕ
@@ -20,5 +20,6 @@ counted t (report.Sound f) = record { sound = capped t.sound 1; refused = t.refu
 -- a tally as text; every frame is either sound or refused
 abbrev pub tally_text : Tally → List ℕ
 tally_text t =
-    decimal (capped t.sound t.refused) ++ (codes " frames: " ++ (decimal t.sound ++ (codes " sound, " ++ (decimal t.refused ++ (codes " refused; " ++
+    decimal (capped t.sound t.refused) ++
+    (codes " frames: " ++ (decimal t.sound ++ (codes " sound, " ++ (decimal t.refused ++ (codes " refused; " ++
     (decimal t.unreadable ++ codes " lines not octets"))))))
