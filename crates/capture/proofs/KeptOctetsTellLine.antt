@@ -8,7 +8,8 @@ use Rattle.frame.proofs.LongOctets.{told_by_start}
 use Rattle.hexadecimal.specs.LineOf.{LineTold, skipped, not_octets, these_octets, kept}
 use Rattle.capture.specs.Reports.{Reported, answered, reported, report_from, report_seen}
 
-pub whole_line : (line : LineTold) (ys : List ℕ) → these_octets ys ≡ kept line → ◌≡◌ {A = Option Reported} (Some (answered (reading ys))) (reported line)
+pub whole_line : (line : LineTold) (ys : List ℕ) → these_octets ys ≡ kept line →
+    ◌≡◌ {A = Option Reported} (Some (answered (reading ys))) (reported line)
 whole_line skipped ys e = let z : ◌≡◌ {A = ℕ} 0 1 = cc in absurd (omega arith)
 whole_line not_octets ys e = let z : ◌≡◌ {A = ℕ} 0 1 = cc in absurd (omega arith)
 whole_line (these_octets xs) ys e =

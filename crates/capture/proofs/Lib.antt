@@ -1,3 +1,3 @@
-pub mod Addresses
-pub mod Codes
-pub mod Lines
+pub mod AddressOctets
+pub mod AcknowledgmentDigits
+pub mod KeptOctetsTellLine

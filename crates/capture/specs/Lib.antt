@@ -1,3 +1,3 @@
-pub mod Texts
+pub mod FrameTexts
 pub mod Reports
 pub mod Tallies

@@ -20,5 +20,6 @@ counted t (report.Sound f) = record { sound = capped t.sound 1; refused = t.refu
 -- a tally as text; every frame is either sound or refused
 abbrev pub tally_text : Tally → List ℕ
 tally_text t =
-    decimal (capped t.sound t.refused) ++ (codes " frames: " ++ (decimal t.sound ++ (codes " sound, " ++ (decimal t.refused ++ (codes " refused; " ++
+    decimal (capped t.sound t.refused) ++
+    (codes " frames: " ++ (decimal t.sound ++ (codes " sound, " ++ (decimal t.refused ++ (codes " refused; " ++
     (decimal t.unreadable ++ codes " lines not octets"))))))

@@ -19,7 +19,7 @@ impl fmt::Display for Named<'_> {
     }
 }
 
-// A full address, as its octets: tried as `{:016x}`, but no lemma says which zeros stand before a number's digits.
+// A full address as sixteen digits, by its octets: no lemma says which zeros `{:016x}` writes.
 #[derive(Clone, Copy)]
 struct Address(u64);
 
@@ -200,7 +200,7 @@ impl fmt::Display for Commanded<'_> {
     }
 }
 
-// A frame, taken apart.
+/// A frame, taken apart: it reads as the kind of frame and `name@place=value` for each part and each number of it.
 #[derive(Clone, Copy)]
 pub struct Dissected<'a>(pub Frame<'a>);
 

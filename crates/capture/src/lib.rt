@@ -1,10 +1,10 @@
-// What a sniffer reports of each line of a radio capture.
+//! What a sniffer reports of each line of a radio capture, and the tally of all lines.
 #![tactic(auto)]
 
-mod reports;
-mod shown;
-mod tallies;
+mod dissected;
+mod report;
+mod tally;
 
-pub use reports::Report;
-pub use shown::Dissected;
-pub use tallies::Tally;
+pub use dissected::Dissected;
+pub use report::Report;
+pub use tally::Tally;

@@ -5,21 +5,24 @@ ghost use Rattle.hexadecimal.specs.LineOf.{line_of};
 ghost use Rattle.hexadecimal.specs.Reading.{Read};
 ghost use Rattle.capture.specs.Reports.{reported, report_from, report_seen, report_text};
 
-use crate::shown::Dissected;
+use crate::dissected::Dissected;
 use frame::{Fault, Frame, read};
 use hexadecimal::{HexLine, NotOctets};
 use std::fmt;
 
-// What is reported of a line that is not skipped. It is no Result, since a Result cannot be given a Display.
+/// What is reported of a line that is not skipped. It reads as `not octets`, as `refused` and the fault, or as the frame taken apart.
 #[derive(Clone, Copy)]
 pub enum Report<'a> {
+    /// The line is something else than octets.
     NotOctets,
+    /// Its octets are no frame.
     Refused(Fault),
+    /// Its octets are this frame.
     Sound(Frame<'a>),
 }
 
 impl Report<'_> {
-    // The report of a line, or none where the line is skipped: three cases, each with its own report, so a chain over both wrappers would hide one.
+    /// The report of a line, or none where the line is skipped.
     pub fn of(line: &HexLine) -> Option<Report<'_>>
         ensures { (t : List ℕ) → Read line.now t → option_map report_seen result ≡ reported (line_of t) }
     {
@@ -31,7 +34,7 @@ impl Report<'_> {
     }
 }
 
-// The report of octets, from what they read as.
+/// The report of octets, from what they read as.
 impl<'a> From<Result<Frame<'a>, Fault>> for Report<'a> {
     ghost from_gives = { λ answer report. report ≡ report_from answer };
 

@@ -2,26 +2,30 @@
 ghost use Rattle.std.specs.Prelude.{◌≡◌, Some};
 ghost use Rattle.capture.specs.Tallies.{nothing, counted, tally_text};
 
-use crate::reports::Report;
+use crate::report::Report;
 use std::fmt;
 
-// How many lines were sound frames, refused ones and no octets. A count stops at the largest number that it can hold.
+/// How many lines were sound frames, refused ones and no octets. A count stops at the largest number that it can hold, 2 ^ 64 - 1.
+/// It reads as `3 frames: 2 sound, 1 refused; 4 lines not octets`.
 #[derive(Clone, Copy, Default)]
 pub struct Tally {
+    /// Lines that are sound frames.
     pub sound: u64,
+    /// Lines of octets that are no frame.
     pub refused: u64,
+    /// Lines that are something else than octets.
     pub unreadable: u64,
 }
 
 impl Tally {
-    // Nothing was counted yet.
+    /// Nothing was counted yet.
     pub fn new() -> Tally
         ensures { result ≡ nothing }
     {
         Tally::default()
     }
 
-    // The tally with one report more.
+    /// The tally with one report more.
     pub fn with(self, report: &Report<'_>) -> Tally
         ensures { result ≡ counted self report.now }
     {

@@ -1,5 +1,5 @@
-mod Spelling
-mod Going
-mod Telling
-mod Keeping
-mod Showing
+mod OctetsOfLongerText
+mod OneByteMore
+mod LineFromProgress
+mod FirstOctetsKept
+mod DigitsOfOctets

@@ -1,12 +1,15 @@
 -- What a line is that ends where a reader stands.
-use Rattle.std.proofs.Common.{◌≡◌, ℕ, Bool, true, false, List, [], ◌∷◌, ◌++◌, Some, None, sym, refl, ap, ◌∙◌, append-nil}
+use Rattle.std.proofs.Common.{◌≡◌, ℕ, false, List, [], ◌∷◌, ◌++◌, Some, None, sym, refl, ap, ◌∙◌}
+use Rattle.std.proofs.Common.{append-nil}
 use Rattle.hexadecimal.specs.declared.line.Progress.{Progress}
-use Rattle.hexadecimal.specs.declared.line.Progress.TheVariants.{Untouched, Comment, Whole, Half, LoneReturn, WholeReturn, Broken}
+use Rattle.hexadecimal.specs.declared.line.Progress.TheVariants.{Untouched, Comment, Whole, Half, LoneReturn}
+use Rattle.hexadecimal.specs.declared.line.Progress.TheVariants.{WholeReturn, Broken}
 use Rattle.hexadecimal.specs.declared.line.HexLine.{HexLine}
 use Rattle.hexadecimal.specs.Grammar.{octets_in}
 use Rattle.hexadecimal.specs.LineOf.{LineTold, skipped, not_octets, these_octets, by_octets, told_by, line_of, kept}
 use Rattle.hexadecimal.specs.Reading.{is_empty, Stands, Read}
-use Rattle.hexadecimal.proofs.OctetsOfLongerText.{is_more, joined, digit_not, return_after, stays, no_return, plain_front, plain_mid, tells}
+use Rattle.hexadecimal.proofs.OctetsOfLongerText.{joined, digit_not, return_after, stays, no_return}
+use Rattle.hexadecimal.proofs.OctetsOfLongerText.{plain_front, plain_mid, tells}
 
 -- the answer at each place
 abbrev pub answer : Progress → List ℕ → LineTold
@@ -27,7 +30,8 @@ whole u spelled f h =
     let p = tells u [] spelled h (plain_front u [] spelled f h) in
     ap told_by (sym (append-nil u)) ∙ p ∙ ap these_octets (append-nil spelled)
 
-pub told_at : (place : Progress) (text spelled : List ℕ) → Stands place text spelled → line_of text ≡ answer place spelled
+pub told_at : (place : Progress) (text spelled : List ℕ) → Stands place text spelled →
+    line_of text ≡ answer place spelled
 told_at Untouched text spelled h = ap line_of h.0
 told_at Comment text spelled h = ap line_of h.1 ∙ comment h.0
 told_at Whole text spelled h = ap told_by (no_return text spelled h.1) ∙ whole text spelled h.0 h.1
@@ -47,39 +51,8 @@ told_at WholeReturn text spelled h =
     ap line_of h.1 ∙ ap told_by (return_after front 13 [] ∙ append-nil front) ∙ whole front spelled h.2 h.3
 told_at Broken text spelled h = ap line_of (sym (append-nil text)) ∙ h []
 
--- only an empty text leaves a reader untouched
-abbrev pub untouched : Progress → Bool
-untouched Untouched = true
-untouched Comment = false
-untouched Whole = false
-untouched (Half first) = false
-untouched LoneReturn = false
-untouched WholeReturn = false
-untouched Broken = false
-
-broken_more : (text : List ℕ) → ((more : List ℕ) → line_of (text ++ more) ≡ not_octets) → is_empty text ≡ false
-broken_more [] h = let z : skipped ≡ not_octets = h [] in let y : true ≡ false = cc in y
-broken_more (b ∷ r) h = refl
-
-pub untouched_at : (place : Progress) (text spelled : List ℕ) → Stands place text spelled → untouched place ≡ is_empty text
-untouched_at Untouched text spelled h = sym (ap is_empty h.0)
-untouched_at Comment text spelled h = sym (ap is_empty h.1)
-untouched_at Whole text spelled h = sym h.0
-untouched_at (Half first) text spelled h = sym (ap is_empty h.1 ∙ is_more h.0 first)
-untouched_at LoneReturn text spelled h = sym (ap is_empty h)
-untouched_at WholeReturn text spelled h = sym (ap is_empty h.1 ∙ is_more h.0 13)
-untouched_at Broken text spelled h = sym (broken_more text h)
-
-pub not_untouched : (place : Progress) → (place ≡ Untouched → ⊥) → untouched place ≡ false
-not_untouched Untouched n = absurd (n refl)
-not_untouched Comment n = refl
-not_untouched Whole n = refl
-not_untouched (Half first) n = refl
-not_untouched LoneReturn n = refl
-not_untouched WholeReturn n = refl
-not_untouched Broken n = refl
-
 -- what a reader tells, from the place where it stands
-pub told_there : (line : HexLine) (text : List ℕ) (h : Read line text) (place : Progress) → line.progress ≡ place → kept (answer place h.spelled) ≡ kept (line_of text)
+pub told_there : (line : HexLine) (text : List ℕ) (h : Read line text) (place : Progress) → line.progress ≡ place →
+    kept (answer place h.spelled) ≡ kept (line_of text)
 told_there line text h place e =
     sym (ap kept (told_at line.progress text h.spelled h.stands) ∙ ap (λ p. kept (answer p h.spelled)) e)

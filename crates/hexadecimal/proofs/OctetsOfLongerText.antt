@@ -1,5 +1,6 @@
 -- How the octets of a text go on where more text follows.
-use Rattle.std.proofs.Common.{◌≡◌, ℕ, Bool, true, false, not, eqb, List, [], ◌∷◌, ◌++◌, is_some, Some, None, Option, sym, refl, ap, ◌∙◌, inl, inr}
+use Rattle.std.proofs.Common.{◌≡◌, ℕ, Bool, true, false, not, eqb, List, [], ◌∷◌, ◌++◌, is_some, Some, None, Option}
+use Rattle.std.proofs.Common.{sym, refl, ap, ◌∙◌, inl, inr}
 use Rattle.std.proofs.lemmas.Bool.{cases_Bool, cond-true, cond-false, ne_eqb, not-true, false≢true, true≢false}
 use Rattle.hexadecimal.specs.Grammar.{digit_value, octet_from, octet_of, before, octets_in}
 use Rattle.hexadecimal.specs.LineOf.{without_return, by_octets, told_by}
@@ -38,7 +39,8 @@ pub space_passes : (byte : ℕ) (v : List ℕ) → eqb byte 32 ≡ true → octe
 space_passes byte [] e = cond-true _ _ _ e
 space_passes byte (n ∷ r) e = cond-true _ _ _ e
 
-pub spells_append : (u v spelled : List ℕ) → octets_in u ≡ Some spelled → octets_in (u ++ v) ≡ joined spelled (octets_in v)
+pub spells_append : (u v spelled : List ℕ) → octets_in u ≡ Some spelled →
+    octets_in (u ++ v) ≡ joined spelled (octets_in v)
 spells_append [] v spelled h = let z : spelled ≡ [] = cc in rw z (sym (joined_none (octets_in v)))
 spells_append (b ∷ []) v spelled h =
     elim (cases_Bool (eqb b 32)) [
@@ -55,7 +57,8 @@ spells_append (b ∷ n ∷ r) v spelled h =
           cond-true (eqb b 32) (octets_in (n ∷ (r ++ v))) _ e ∙
           spells_append (n ∷ r) v spelled (sym (cond-true (eqb b 32) (octets_in (n ∷ r)) _ e) ∙ h)
       | inr e ↦
-          let p = parted (octet_of b n) (octets_in r) spelled (sym (cond-false (eqb b 32) (octets_in (n ∷ r)) _ e) ∙ h) in
+          let p =
+          parted (octet_of b n) (octets_in r) spelled (sym (cond-false (eqb b 32) (octets_in (n ∷ r)) _ e) ∙ h) in
           let go : octets_in (r ++ v) ≡ joined p.1 (octets_in v) = spells_append r v p.1 p.3 in
           cond-false (eqb b 32) (octets_in (n ∷ (r ++ v))) _ e ∙
           ap (λ o. before o (octets_in (r ++ v))) p.2 ∙
@@ -66,7 +69,8 @@ spells_append (b ∷ n ∷ r) v spelled h =
 
 -- a digit is not the byte k, where k is none
 pub digit_not : (byte k : ℕ) → is_some (digit_value byte) ≡ true → digit_value k ≡ None → eqb byte k ≡ false
-digit_not byte k h n = ne_eqb byte k (λ e. false≢true (ap is_some (sym n) ∙ ap (λ x. is_some (digit_value x)) (sym e) ∙ h))
+digit_not byte k h n =
+    ne_eqb byte k (λ e. false≢true (ap is_some (sym n) ∙ ap (λ x. is_some (digit_value x)) (sym e) ∙ h))
 
 -- a byte that is neither a space nor a digit spells nothing, whatever follows
 pub stops : (byte : ℕ) (v : List ℕ) → eqb byte 32 ≡ false → digit_value byte ≡ None → octets_in (byte ∷ v) ≡ None
@@ -76,7 +80,8 @@ stops byte (next ∷ rest) e n =
     ap (λ d. before (octet_from d (digit_value next)) (octets_in rest)) n
 
 -- nor do two bytes that make no octet
-pub no_octet : (first second : ℕ) (v : List ℕ) → eqb first 32 ≡ false → octet_of first second ≡ None → octets_in (first ∷ second ∷ v) ≡ None
+pub no_octet : (first second : ℕ) (v : List ℕ) → eqb first 32 ≡ false → octet_of first second ≡ None →
+    octets_in (first ∷ second ∷ v) ≡ None
 no_octet first second v e n =
     cond-false (eqb first 32) (octets_in (second ∷ v)) (before (octet_of first second) (octets_in v)) e ∙
     ap (λ o. before o (octets_in v)) n
@@ -88,7 +93,8 @@ octet_digits (Some high) None x e = absurd (some_none x e)
 octet_digits (Some high) (Some low) x e = (refl, refl)
 
 -- a carriage return goes only from the end
-pub return_after : (u : List ℕ) (byte : ℕ) (v : List ℕ) → without_return (u ++ byte ∷ v) ≡ u ++ without_return (byte ∷ v)
+pub return_after : (u : List ℕ) (byte : ℕ) (v : List ℕ) →
+    without_return (u ++ byte ∷ v) ≡ u ++ without_return (byte ∷ v)
 return_after [] byte v = refl
 return_after (b ∷ []) byte v = refl
 return_after (b ∷ n ∷ r) byte v = ap (λ l. b ∷ l) (return_after (n ∷ r) byte v)
@@ -107,7 +113,8 @@ no_return (b ∷ n ∷ r) spelled h =
     elim (cases_Bool (eqb b 32)) [
       | inl e ↦ ap (λ l. b ∷ l) (no_return (n ∷ r) spelled (sym (cond-true (eqb b 32) (octets_in (n ∷ r)) _ e) ∙ h))
       | inr e ↦
-          let p = parted (octet_of b n) (octets_in r) spelled (sym (cond-false (eqb b 32) (octets_in (n ∷ r)) _ e) ∙ h) in
+          let p =
+          parted (octet_of b n) (octets_in r) spelled (sym (cond-false (eqb b 32) (octets_in (n ∷ r)) _ e) ∙ h) in
           let d = octet_digits (digit_value b) (digit_value n) p.0 p.2 in
           let ne = digit_not n 13 d.1 refl in
           ap (λ l. b ∷ l) (stays n r ne ∙ ap (λ l. n ∷ l) (no_return r p.1 p.3))
@@ -125,7 +132,8 @@ plain_front (b ∷ r) v spelled f h =
     let ne : b ≡ 35 → ⊥ = λ z. some_none spelled (sym (none r) ∙ ap (λ x. octets_in (x ∷ r)) (sym z) ∙ h) in
     ap not (ne_eqb b 35 ne)
 
-pub plain_mid : (u : List ℕ) (byte : ℕ) (v spelled : List ℕ) → octets_in u ≡ Some spelled → eqb byte 35 ≡ false → plain (u ++ byte ∷ v) ≡ true
+pub plain_mid : (u : List ℕ) (byte : ℕ) (v spelled : List ℕ) → octets_in u ≡ Some spelled → eqb byte 35 ≡ false →
+    plain (u ++ byte ∷ v) ≡ true
 plain_mid [] byte v spelled h e = ap not e
 plain_mid (b ∷ r) byte v spelled h e = plain_front (b ∷ r) (byte ∷ v) spelled refl h
 
@@ -134,5 +142,6 @@ told_plain [] p = absurd (false≢true p)
 told_plain (b ∷ r) p = cond-false (eqb b 35) _ _ (not-true (eqb b 35) p)
 
 -- what a line is that goes on after whole octets
-pub tells : (u v spelled : List ℕ) → octets_in u ≡ Some spelled → plain (u ++ v) ≡ true → told_by (u ++ v) ≡ by_octets (joined spelled (octets_in v))
+pub tells : (u v spelled : List ℕ) → octets_in u ≡ Some spelled → plain (u ++ v) ≡ true →
+    told_by (u ++ v) ≡ by_octets (joined spelled (octets_in v))
 tells u v spelled h p = told_plain (u ++ v) p ∙ ap by_octets (spells_append u v spelled h)

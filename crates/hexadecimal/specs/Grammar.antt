@@ -1,5 +1,6 @@
 -- How a line of a capture spells octets.
-use Rattle.std.specs.Prelude.{ℕ, ◌+◌, ◌-◌, ◌*◌, ◌/◌, ◌%◌, Bool, cond, ◌&&◌, List, [], ◌∷◌, ◌++◌, Some, None, Option, ◌==◌, nat_le, nat_lt}
+use Rattle.std.specs.Prelude.{ℕ, ◌+◌, ◌-◌, ◌*◌, ◌/◌, ◌%◌, Bool, cond, ◌&&◌, List, [], ◌∷◌, ◌++◌, Some, None, Option}
+use Rattle.std.specs.Prelude.{◌==◌, nat_le, nat_lt}
 
 -- whether a byte lies from the first to the last, both included
 abbrev pub in_range : ℕ → ℕ → ℕ → Bool
@@ -34,7 +35,8 @@ before (Some octet) (Some others) = Some (octet ∷ others)
 abbrev pub octets_in : List ℕ → Option (List ℕ)
 octets_in [] = Some []
 octets_in (byte ∷ []) = cond (byte == 32) (Some []) None
-octets_in (byte ∷ next ∷ rest) = cond (byte == 32) (octets_in (next ∷ rest)) (before (octet_of byte next) (octets_in rest))
+octets_in (byte ∷ next ∷ rest) =
+    cond (byte == 32) (octets_in (next ∷ rest)) (before (octet_of byte next) (octets_in rest))
 
 -- the lower-case digit for a number below sixteen
 abbrev pub digit_code : ℕ → ℕ

@@ -1,7 +1,7 @@
 -- What a whole line of a capture is.
 use Rattle.std.specs.Prelude.{ℕ, cond, List, [], ◌∷◌, take, Some, None, Option, Ok, Err, Result, ◌==◌}
 use Rattle.std.specs.Borrow.{Bor}
-use Rattle.hexadecimal.specs.declared.line.reading.NotOctets.{NotOctets}
+use Rattle.hexadecimal.specs.declared.line.NotOctets.{NotOctets}
 use Rattle.hexadecimal.specs.Grammar.{octets_in}
 
 -- what a line is: passed over, something else than octets, or these octets
@@ -30,11 +30,15 @@ told_by (byte ∷ rest) = cond (byte == 35) skipped (by_octets (octets_in (byte 
 abbrev pub line_of : List ℕ → LineTold
 line_of text = told_by (without_return text)
 
--- the same with the first 126 octets only
+-- how many octets of a line are kept: one more than the longest frame has
+abbrev pub most_kept : ℕ
+most_kept = 126
+
+-- the same with the octets only that are kept
 abbrev pub kept : LineTold → LineTold
 kept skipped = skipped
 kept not_octets = not_octets
-kept (these_octets spelled) = these_octets (take 126 spelled)
+kept (these_octets spelled) = these_octets (take most_kept spelled)
 
 -- what an answer says, with the list that its slice points to
 abbrev pub seen : Result (Option (Bor (List ℕ))) NotOctets → LineTold

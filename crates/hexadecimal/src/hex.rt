@@ -4,7 +4,7 @@ ghost use Rattle.hexadecimal.specs.Grammar.{text_of};
 
 use std::fmt;
 
-// Octets to show: in lower-case hexadecimal without spaces, and none as `-`.
+/// Octets to show: two lower-case hexadecimal digits each, without spaces, and none as `-`.
 #[derive(Clone, Copy)]
 pub struct Hex<'a>(pub &'a [u8]);
 

@@ -1,14 +1,9 @@
-// Radio captures in hexadecimal: one frame a line of text, two digits an octet.
+//! Octets as hexadecimal text: a line of a radio capture read as octets, two digits each, and octets shown.
 #![tactic(auto)]
 
 mod digit;
+mod hex;
 mod line;
-mod show;
 
-pub use digit::digits;
-pub use line::HexLine;
-pub use line::reading::NotOctets;
-pub use show::Hex;
-
-#[cfg(test)]
-mod tests;
+pub use hex::Hex;
+pub use line::{HexLine, NotOctets};

@@ -3,7 +3,7 @@ use Rattle.std.proofs.Common.{◌≡◌, ℕ, false, [], ◌∷◌, ◌++◌, Op
 use Rattle.hexadecimal.specs.declared.line.Progress.TheVariants.{Whole}
 use Rattle.hexadecimal.specs.Reading.{Stands}
 use Rattle.hexadecimal.proofs.OneByteMore.{space_on, break_on}
-use Rattle.hexadecimal.proofs.line.reading.between.Goals as goal
+use Rattle.hexadecimal.proofs.line.between.Goals as goal
 
 pub returns-then-byte-eq32 : goal.returns-then-byte-eq32
 returns-then-byte-eq32 c t s h k = subst (λ b. Stands Whole (t ++ b ∷ []) s) (sym c.if-byte-eq32.true) (space_on t s h)
@@ -14,4 +14,5 @@ none (Some n) e = cc
 
 pub returns-else-is_some : goal.returns-else-is_some
 returns-else-is_some c t s h k =
-    break_on t s c.args.byte h k c.requires c.if-byte-eq32.false (sym c.value_of.ensures ∙ none _ (sym c.if-is_some.ensures))
+    break_on t s c.args.byte h k c.requires c.if-byte-eq32.false
+    (sym c.value_of.ensures ∙ none _ (sym c.if-is_some.ensures))

@@ -2,7 +2,7 @@ use Rattle.std.proofs.Common.{ℕ, List, ◌∙◌, subst}
 use Rattle.std.specs.Fmt.{WritesOnOk}
 use Rattle.hexadecimal.specs.Grammar.{text_of}
 use Rattle.capture.proofs.AddressOctets.{highest_first}
-use Rattle.capture.proofs.shown.AddressDisplay.fmt.Goals as goal
+use Rattle.capture.proofs.dissected.AddressDisplay.fmt.Goals as goal
 
 pub returns-clause-writes : goal.returns-clause-writes
 returns-clause-writes g c =

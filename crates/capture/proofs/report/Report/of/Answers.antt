@@ -2,7 +2,7 @@ use Rattle.std.proofs.Common.{Some, ap, ◌∙◌}
 use Rattle.hexadecimal.specs.LineOf.{line_of}
 use Rattle.capture.specs.Reports.{Reported, report_seen, answered}
 use Rattle.capture.proofs.KeptOctetsTellLine.{whole_line, seen_from}
-use Rattle.capture.proofs.reports.Report.of.Goals as goal
+use Rattle.capture.proofs.report.Report.of.Goals as goal
 
 pub returns-in-Ok-Some : goal.returns-in-Ok-Some
 returns-in-Ok-Some c t read =

@@ -9,7 +9,8 @@ use Rattle.hexadecimal.proofs.FirstOctetsKept.{take_again}
 use Rattle.hexadecimal.proofs.line.HexLine.push.Goals as goal
 
 -- what was read, by the place
-at : (line : HexLine) (text : List ℕ) (h : Read line text) (place : Progress) → line.progress ≡ place → Stands place text h.spelled
+at : (line : HexLine) (text : List ℕ) (h : Read line text) (place : Progress) → line.progress ≡ place →
+    Stands place text h.spelled
 at line text h place e = subst (λ p. Stands p text h.spelled) e h.stands
 
 pub returns-in-Some : goal.returns-in-Some
@@ -19,8 +20,11 @@ returns-in-Some c t h =
     let first = c.in-Half.first in
     record {
       spelled = h.spelled ++ octet ∷ [];
-      stands = octet_on t h.spelled first c.args.byte octet (at line t h (Half first) c.in-Half.is) (sym c.octet_of.ensures ∙ c.in-Some.is);
-      keeps = c.keep.ensures.stores ∙ ap (λ l. take 126 (l ++ octet ∷ [])) h.keeps ∙ take_again 126 h.spelled (octet ∷ []);
+      stands =
+          octet_on t h.spelled first c.args.byte octet (at line t h (Half first) c.in-Half.is)
+          (sym c.octet_of.ensures ∙ c.in-Some.is);
+      keeps =
+          c.keep.ensures.stores ∙ ap (λ l. take 126 (l ++ octet ∷ [])) h.keeps ∙ take_again 126 h.spelled (octet ∷ []);
     }
 
 pub returns-in-None : goal.returns-in-None
@@ -29,7 +33,9 @@ returns-in-None c t h =
     let first = c.in-Half.first in
     record {
       spelled = h.spelled;
-      stands = half_broken t h.spelled first c.args.byte (at line t h (Half first) c.in-Half.is) (sym c.octet_of.ensures ∙ c.in-None.is);
+      stands =
+          half_broken t h.spelled first c.args.byte (at line t h (Half first) c.in-Half.is)
+          (sym c.octet_of.ensures ∙ c.in-None.is);
       keeps = h.keeps;
     }
 
@@ -42,7 +48,11 @@ returns-in-LoneReturn c t h =
       spelled = s;
       stands = elim c.in-LoneReturn.is [
         | inl e ↦ lone_broken t s byte (at line t h LoneReturn e)
-        | inr r ↦ elim r [ inl e ↦ whole_broken t s byte (at line t h WholeReturn e) | inr e ↦ still_broken t s byte (at line t h Broken e) ]
+        | inr r ↦
+            elim r [
+              | inl e ↦ whole_broken t s byte (at line t h WholeReturn e)
+              | inr e ↦ still_broken t s byte (at line t h Broken e)
+            ]
       ];
       keeps = h.keeps;
     }
