@@ -1,5 +1,5 @@
 -- What reading octets as a kind of cargo answers.
-use Rattle.std.specs.Prelude.{◌≡◌, ℕ, List, ◌++◌, length, Ok, Err, Result, ◌≢◌}
+use Rattle.std.specs.Prelude.{◌≡◌, ℕ, List, Ok, Err, Result, ◌≢◌}
 use Rattle.frame.specs.declared.faults.Fault.{Fault}
 use Rattle.frame.specs.declared.faults.Refusal.TheVariants as refusal
 use Rattle.frame.specs.Refusals.{fault}
@@ -12,7 +12,3 @@ Reads {C = C} image xs (Err e) = (e ≡ fault refusal.Cargo 1) × ((v : C) → i
 -- values with one image are equal
 abbrev pub Apart : {C : Type 0} → (C → List ℕ) → Type 0
 Apart {C = C} image = (x y : C) → image x ≡ image y → x ≡ y
-
--- the first `count` octets are read as the value whose image they are
-abbrev pub ReadsStart : {C : Type 0} → (C → List ℕ) → ℕ → List ℕ → Result C Fault → Type 0
-ReadsStart {C = C} image count xs r = (v : C) (rest : List ℕ) → xs ≡ image v ++ rest → count ≡ length (image v) → r ≡ Ok v

@@ -29,10 +29,12 @@ packed (suc n) inputs = number (take 8 inputs) ∷ packed n (drop 8 inputs)
 abbrev pub panel_image : List Bool → List ℕ
 panel_image inputs = length inputs ∷ packed (octets_for (length inputs)) inputs
 
--- octets are laid out as a panel's image: the count, then as many octets as the count needs, where input k is bit k mod 8 of
+-- octets are laid out as a panel's image: the count, then as many octets as the count needs, where input k is bit k
+-- mod 8 of
 -- octet k / 8, and a bit that stands for no input is zero
 pub record LaidOut (inputs : List Bool) (xs : List ℕ) : Type 0 where
   pub count : octet xs 0 ≡ length inputs
   pub size : length xs ≡ 1 + octets_for (length inputs)
-  pub places : (k : ℕ) → k / 8 < octets_for (length inputs) → bits (k % 8) 1 (octet xs (1 + k / 8)) ≡ bit (slice_index_or inputs k false)
+  pub places : (k : ℕ) → k / 8 < octets_for (length inputs)
+      → bits (k % 8) 1 (octet xs (1 + k / 8)) ≡ bit (slice_index_or inputs k false)
   pub octets : (j : ℕ) → j < octets_for (length inputs) → octet xs (1 + j) < 256

@@ -2,8 +2,8 @@ pub mod Images
 pub mod Readings
 pub mod Inputs
 pub mod Panels
-pub mod Passing
-pub mod PanelsLemmas
-pub mod Packing
-pub mod InputsLemmas
-pub mod Complements
+pub mod ReceivedCargo
+pub mod EachPanelHasItsOwnImage
+pub mod InputsLieInTheImage
+pub mod InputsAreBitsOfANumber
+pub mod EachReadingHasItsOwnImage

@@ -1,15 +1,14 @@
-// Cargo: what a host hands over and gets back unaltered through the network, by kinds that each have an image in octets.
+//! Cargo: what a host hands over and gets back unaltered through the network, by kinds that each have an image in octets.
 #![tactic(auto)]
 
-mod kinds;
+mod data_frames;
+mod kind_of_cargo;
 mod panel;
-mod passing;
 mod reading;
+mod round_trip;
 
-pub use kinds::Cargo;
+pub use data_frames::receive;
+pub use kind_of_cargo::Cargo;
 pub use panel::Panel;
-pub use passing::{receive, write_and_read};
 pub use reading::Reading;
-
-#[cfg(test)]
-mod tests;
+pub use round_trip::write_and_read;

@@ -1,4 +1,4 @@
-use Rattle.cargo.specs.InputsLemmas.{input_bit}
+use Rattle.cargo.specs.InputsAreBitsOfANumber.{input_bit}
 use Rattle.cargo.proofs.panel.Panel.is_on.Goals as goal
 
 pub returns : goal.returns

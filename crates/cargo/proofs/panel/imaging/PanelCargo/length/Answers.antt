@@ -1,6 +1,0 @@
-use Rattle.std.proofs.Common.{sym}
-use Rattle.cargo.specs.PanelsLemmas.{image_size}
-use Rattle.cargo.proofs.panel.imaging.PanelCargo.length.Goals as goal
-
-pub returns : goal.returns
-returns c = rw c.octets_for.ensures (sym (image_size c.args.self.now))
