@@ -4,7 +4,7 @@ use Rattle.frame.specs.declared.faults.Fault.{Fault}
 use Rattle.frame.specs.declared.faults.Refusal.TheVariants as refusal
 use Rattle.frame.specs.Refusals.{fault}
 use Rattle.plan.specs.declared.grant.Grant.{Grant}
-use Rattle.plan.specs.declared.grant.Numbers.{Numbers}
+use Rattle.plan.specs.declared.numbers.Numbers.{Numbers}
 use Rattle.plan.specs.Rules.{bitmap_octets}
 
 -- the spacing after a frame of m octets, FCS included: short up to 18 octets, else long
@@ -54,4 +54,13 @@ microseconds symbols = 16 * symbols
 
 -- sixteen timeslots of two octets each, two of them for retransmission
 abbrev pub sixteen_of_two : Numbers
-sixteen_of_two = record { timeslots = 16; uplink = 16; retransmission = 2; size = 2; management = 1; coordinator = 0; channel = 11; sequence = 0 }
+sixteen_of_two = record {
+  timeslots = 16;
+  uplink = 16;
+  retransmission = 2;
+  size = 2;
+  management = 1;
+  coordinator = 0;
+  channel = 11;
+  sequence = 0;
+}

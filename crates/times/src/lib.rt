@@ -1,4 +1,4 @@
-// Slot times of the low latency mode (LLDN) of IEEE 802.15.4, in symbols of 16 microseconds.
+//! Slot times of the low latency mode (LLDN) of IEEE 802.15.4, in symbols of 16 microseconds.
 #![tactic(auto)]
 
 ghost use Rattle.std.specs.Prelude.{◌≡◌, [], ◌∷◌, map};
@@ -9,7 +9,7 @@ ghost use Rattle.times.specs.Laws.{FollowEachOther, FullFramesEndInside, EndsWit
 use frame::{Fault, Refusal};
 use plan::{Numbers, SlotPlan};
 
-// The symbols that a frame takes with the spacing after it; its FCS is among the octets.
+/// The symbols that a frame of `octets` octets, its FCS included, takes with the spacing after it.
 pub fn frame_symbols(octets: u16) -> u32
     ensures { result ≡ frame_symbols octets }
 {
@@ -17,7 +17,7 @@ pub fn frame_symbols(octets: u16) -> u32
     12 + 2 * u32::from(octets) + spacing
 }
 
-// The symbols of a base timeslot, which fits a payload of `size` octets.
+/// The symbols of a base timeslot, which fits a payload of `size` octets with the control octet and the FCS.
 pub fn timeslot_symbols(size: u8) -> u32
     ensures answer { result ≡ timeslot_symbols size }
     ensures known { map timeslot_symbols (2 ∷ 15 ∷ 16 ∷ 20 ∷ []) ≡ 34 ∷ 60 ∷ 90 ∷ 98 ∷ [] }
@@ -25,15 +25,16 @@ pub fn timeslot_symbols(size: u8) -> u32
     frame_symbols(u16::from(size) + 3)
 }
 
-// The symbols of the beacon timeslot, which fits the Online beacon.
+/// The symbols of the beacon timeslot, which fits the Online beacon with its bitmap and its FCS.
 pub fn beacon_symbols(numbers: Numbers) -> u32
     ensures { result ≡ beacon_symbols numbers }
 {
     frame_symbols(6 + numbers.bitmap_octets() as u16 + 2)
 }
 
-// When timeslot t starts and ends, counted from the start of the beacon; refused where the plan has no such timeslot.
-// A pair of symbol counts: both are asked for together.
+/// When base timeslot `t`, counted from 1, starts and ends, in symbols from the start of the beacon.
+///
+/// Refused with Timeslot at `t` where the plan has no such timeslot.
 pub fn slot_time<P: SlotPlan>(plan: &P, t: u8) -> Result<(u32, u32), Fault>
     ensures answer { result ≡ slot_span (P.SlotPlan.meaning plan.now).numbers t }
     ensures follow { FollowEachOther (P.SlotPlan.meaning plan.now).numbers }
@@ -45,8 +46,8 @@ pub fn slot_time<P: SlotPlan>(plan: &P, t: u8) -> Result<(u32, u32), Fault>
     Ok(span(numbers, t, 1))
 }
 
-// When the timeslots of grant i start and end, or none where there is no such grant. A full frame ends inside them.
-// A pair of symbol counts, as at `slot_time`.
+/// When the timeslots of grant `i`, from 1 on, start and end, in symbols from the start of the beacon, or none where there
+/// is no such grant. A frame with as much as the grant carries ends inside them.
 pub fn grant_time<P: SlotPlan>(plan: &P, i: usize) -> Option<(u32, u32)>
     ensures answer { result ≡ grant_span (P.SlotPlan.meaning plan.now).numbers (grant_at (P.SlotPlan.meaning plan.now) i) }
     ensures inside { FullFramesEndInside (P.SlotPlan.meaning plan.now) }
@@ -66,7 +67,7 @@ fn span(numbers: Numbers, first: u8, width: u8) -> (u32, u32)
     (beacon + before * slot, beacon + last * slot)
 }
 
-// The symbols of the whole Online superframe, from the beacon's start to the last timeslot's end.
+/// The symbols of the whole Online superframe, from the beacon's start to the last timeslot's end.
 pub fn superframe_symbols<P: SlotPlan>(plan: &P) -> u32
     ensures answer { result ≡ superframe_symbols (P.SlotPlan.meaning plan.now).numbers }
     ensures ends { EndsWithLastTimeslot (P.SlotPlan.meaning plan.now).numbers }
@@ -76,7 +77,7 @@ pub fn superframe_symbols<P: SlotPlan>(plan: &P) -> u32
     beacon_symbols(numbers) + u32::from(numbers.timeslots) * timeslot_symbols(numbers.size)
 }
 
-// Symbols as microseconds.
+/// Symbols as microseconds, 16 to a symbol.
 pub fn to_microseconds(symbols: u32) -> u64
     ensures { result ≡ microseconds symbols }
 {

@@ -1,5 +1,5 @@
 -- The law holds of every plan, whichever grant is asked for.
-use Rattle.times.proofs.Inside.{inside}
+use Rattle.times.proofs.FramesEndInsideTheirGrant.{inside}
 use Rattle.times.proofs.grant_time.Goals as goal
 
 pub returns-clause-inside : goal.returns-clause-inside

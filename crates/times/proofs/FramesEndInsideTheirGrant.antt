@@ -41,7 +41,8 @@ pub inside : (m : PlanMeaning) → Rules m → FullFramesEndInside m
 inside m rules i g e =
     let keeps : GrantKeeps m.numbers g = rules.own i g e in
     let t = timeslot_symbols m.numbers.size in
-    let h = fits g.width m.numbers.size (carried m.numbers.size g) keeps.width (min-le_right 124 (g.width * m.numbers.size)) in
+    let h = fits g.width m.numbers.size (carried m.numbers.size g) keeps.width
+    (min-le_right 124 (g.width * m.numbers.size)) in
     let from : 1 ≤ g.first = starts g keeps in
     let sum : g.first + g.width - 1 ≡ (g.first - 1) + g.width = omega arith in
     rw sum (omega (arith, add-mul (g.first - 1) g.width t))
