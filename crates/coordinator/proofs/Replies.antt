@@ -4,11 +4,11 @@ use Rattle.std.proofs.lemmas.Result.{err_from_is_err_and}
 use Rattle.frame.specs.declared.faults.Fault.{Fault}
 use Rattle.frame.specs.Formats.{Told, reading}
 use Rattle.plan.specs.declared.grant.Grant.{Grant}
-use Rattle.plan.specs.declared.grant.Numbers.{Numbers}
+use Rattle.plan.specs.declared.numbers.Numbers.{Numbers}
 use Rattle.plan.specs.Rules.{PlanMeaning, Rules, grant_at, plan_of}
 use Rattle.plan.specs.Answers.{number_with}
 use Rattle.plan.proofs.Lawful.{names_addressed}
-use Rattle.plan.specs.Numbered.{numbered}
+use Rattle.plan.specs.GrantsByNumber.{numbered}
 use Rattle.coordinator.specs.declared.state.Inner.{Inner}
 use Rattle.coordinator.specs.Beacons.{state_of}
 use Rattle.coordinator.specs.Stages.{admitting_management, known, Replied}

@@ -12,13 +12,13 @@ use Rattle.frame.specs.Messages.{State, online, discovery, configuration, reset}
 use Rattle.frame.specs.Refusals.{fault}
 use Rattle.frame.specs.Writing.{fitting, left_by}
 use Rattle.plan.specs.declared.grant.Grant.{Grant}
-use Rattle.plan.specs.declared.grant.Numbers.{Numbers}
+use Rattle.plan.specs.declared.numbers.Numbers.{Numbers}
 use Rattle.plan.specs.Rules.{PlanMeaning, count_of, grant_at, carried}
 use Rattle.plan.specs.Answers.{number_with}
 use Rattle.repeats.specs.Bitmaps.{nothing_heard, marked_with}
 use Rattle.repeats.specs.BitAndRepeatTimeslots.{for_retransmission}
 use Rattle.repeats.specs.Starts.{sender_at}
-use Rattle.cargo.specs.Passing.{Receives}
+use Rattle.cargo.specs.ReceivedCargo.{Receives}
 use Rattle.coordinator.specs.declared.state.Heard.{Heard}
 use Rattle.coordinator.specs.declared.state.Mode.{Mode}
 use Rattle.coordinator.specs.declared.state.Mode.TheVariants as mode

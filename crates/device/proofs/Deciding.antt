@@ -1,8 +1,8 @@
 -- Two tests that decide the same agree.
 use Rattle.std.proofs.Common.{◌≡◌, Bool, true, false, Decides, sym, refl}
 use Rattle.plan.specs.declared.grant.Grant.{Grant}
-use Rattle.plan.specs.declared.grant.Numbers.{Numbers}
-use Rattle.plan.specs.Decisions.{numbers_decided, grant_decided}
+use Rattle.plan.specs.declared.numbers.Numbers.{Numbers}
+use Rattle.plan.specs.TestsDecideTheRules.{numbers_decided, grant_decided}
 use Rattle.plan.specs.Rules.{NumbersKeep, GrantKeeps}
 use Rattle.plan.specs.Verdicts.{numbers_kept, grant_kept}
 

@@ -1,7 +1,7 @@
 -- The test of a beacon's bitmap decides whether the bitmap fits.
 use Rattle.std.proofs.Common.{◌≡◌, ℕ, zero, suc, ◌+◌, ◌-◌, ◌*◌, ◌<◌, ◌≤◌, Bool, true, Decides, eqb, List, length, refl, inl, inr, arith}
 use Rattle.std.proofs.lemmas.Bool.{and_parts, and_from, eqb-true, eq-eqb, cases_eq, cases_lt}
-use Rattle.plan.specs.declared.grant.Numbers.{Numbers}
+use Rattle.plan.specs.declared.numbers.Numbers.{Numbers}
 use Rattle.plan.specs.Rules.{bitmap_octets}
 use Rattle.repeats.specs.Bitmaps.{bit, Fits}
 use Rattle.repeats.proofs.MarkingSetsTheGrantsBits.{bit_past}

@@ -9,7 +9,7 @@ use Rattle.frame.specs.Messages.{Message, online_beacon, discovery_beacon, confi
 use Rattle.frame.specs.Messages.{State, online, discovery, configuration, reset}
 use Rattle.frame.specs.Refusals.{fault}
 use Rattle.plan.specs.declared.grant.Grant.{Grant}
-use Rattle.plan.specs.declared.grant.Numbers.{Numbers}
+use Rattle.plan.specs.declared.numbers.Numbers.{Numbers}
 use Rattle.plan.specs.Rules.{bitmap_octets}
 use Rattle.plan.specs.Verdicts.{numbers_kept, grant_kept}
 use Rattle.repeats.specs.Bitmaps.{bit}

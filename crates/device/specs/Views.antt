@@ -9,7 +9,7 @@ use Rattle.frame.specs.declared.frames.Configuration.{Configuration}
 use Rattle.frame.specs.Messages.{online, discovery, configuration, reset}
 use Rattle.device.specs.declared.hearing.Beacon as code
 use Rattle.device.specs.declared.rules.Member.{Member}
-use Rattle.plan.specs.declared.grant.Numbers.{Numbers}
+use Rattle.plan.specs.declared.numbers.Numbers.{Numbers}
 use Rattle.repeats.specs.declared.group_acknowledgment.GroupAcknowledgment.{GroupAcknowledgment}
 use Rattle.device.specs.Beacons.{Beacon, plain, is_online, numbers_in}
 use Rattle.device.specs.Steps.{Taken, acknowledgment, configured}

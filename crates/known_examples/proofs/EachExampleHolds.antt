@@ -6,7 +6,7 @@ use Rattle.frame.specs.Refusals.{fault}
 use Rattle.repeats.specs.BitAndRepeatTimeslots.{before_bits, before_repeats}
 use Rattle.repeats.specs.Starts.{repeat_start}
 use Rattle.cargo.specs.Panels.{ImagesNone}
-use Rattle.cargo.specs.PanelsLemmas.{not_unused}
+use Rattle.cargo.specs.EachPanelHasItsOwnImage.{not_unused}
 use Rattle.known_examples.specs.KnownExamples.{OnlyRefused, KnownCasesHold}
 
 -- where no panel has an image, the answer is the refusal

@@ -1,7 +1,7 @@
 // A plan of either kind.
 ghost use Rattle.lldn.specs.Plans.{plan_meaning};
 ghost use Rattle.lldn.specs.declared.plans.AnyPlan.TheVariants.{Listed, Even};
-ghost use Rattle.plan.specs.Judged.{lawful};
+ghost use Rattle.plan.specs.VerdictsFollowTheRules.{lawful};
 ghost use Rattle.plan.specs.EvenPlans.{even_meaning};
 ghost use Rattle.plan.specs.ListedPlans.{listed_meaning};
 

@@ -12,7 +12,7 @@ use Rattle.frame.specs.Messages.{acknowledgment_frame, command_frame}
 use Rattle.frame.specs.Writing.{left_by}
 use Rattle.frame.proofs.Returns.{reads_back}
 use Rattle.plan.specs.declared.grant.Grant.{Grant}
-use Rattle.plan.specs.declared.grant.Numbers.{Numbers}
+use Rattle.plan.specs.declared.numbers.Numbers.{Numbers}
 use Rattle.plan.specs.Rules.{PlanMeaning, Rules, grant_at}
 use Rattle.plan.proofs.Lawful.{addresses_differ, grant_keeps, grant_within}
 use Rattle.repeats.proofs.Starting.{started}

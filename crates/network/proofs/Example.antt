@@ -5,10 +5,10 @@ use Rattle.frame.specs.Refusals.{fault}
 use Rattle.plan.specs.Rules.{Rules}
 use Rattle.plan.specs.Verdicts.{verdict, breaking, clashing_before, clashing, numbers_kept, grant_kept}
 use Rattle.plan.specs.Answers.{number_with}
-use Rattle.plan.specs.Judged.{lawful}
+use Rattle.plan.specs.VerdictsFollowTheRules.{lawful}
 use Rattle.cargo.specs.declared.reading.Reading.{Reading}
 use Rattle.cargo.specs.Readings.{image_of}
-use Rattle.cargo.specs.Complements.{same_reading}
+use Rattle.cargo.specs.EachReadingHasItsOwnImage.{same_reading}
 use Rattle.repeats.specs.Starts.{repeat_start, repeater_at, beginner_at, sender_at}
 use Rattle.device.specs.Beacons.{bitmap_fits}
 use Rattle.network.specs.Runs.{Different, Run}

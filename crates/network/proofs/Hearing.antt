@@ -12,8 +12,8 @@ use Rattle.repeats.specs.Laws.{BitsAlike}
 use Rattle.repeats.proofs.Serving.{names_sender}
 use Rattle.repeats.proofs.Starting.{started}
 use Rattle.cargo.specs.Images.{Apart}
-use Rattle.cargo.specs.Passing.{Receives}
-use Rattle.cargo.proofs.Deliveries.{delivered}
+use Rattle.cargo.specs.ReceivedCargo.{Receives}
+use Rattle.cargo.proofs.ImagesAreReadBack.{delivered}
 use Rattle.coordinator.specs.declared.state.Inner.{Inner}
 use Rattle.coordinator.specs.Steps.{granted, sending, gathering}
 use Rattle.device.specs.declared.state.Device.{Device}

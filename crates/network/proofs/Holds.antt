@@ -7,7 +7,7 @@ use Rattle.plan.specs.declared.grant.Grant.{Grant}
 use Rattle.plan.specs.Rules.{PlanMeaning, Rules, grant_at}
 use Rattle.plan.proofs.Lawful.{addresses_differ, names_addressed}
 use Rattle.cargo.specs.Images.{Apart}
-use Rattle.cargo.specs.Passing.{Receives}
+use Rattle.cargo.specs.ReceivedCargo.{Receives}
 use Rattle.coordinator.specs.declared.state.Heard.{Heard}
 use Rattle.coordinator.specs.declared.state.Inner.{Inner}
 use Rattle.coordinator.specs.declared.state.Opened.{Opened}

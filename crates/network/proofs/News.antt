@@ -10,7 +10,7 @@ use Rattle.frame.specs.Messages.{State, online, discovery, configuration, reset,
 use Rattle.frame.proofs.Numbers.{low_bits}
 use Rattle.frame.proofs.Returns.{reads_back, told_of}
 use Rattle.plan.specs.declared.grant.Grant.{Grant}
-use Rattle.plan.specs.declared.grant.Numbers.{Numbers}
+use Rattle.plan.specs.declared.numbers.Numbers.{Numbers}
 use Rattle.plan.specs.Rules.{PlanMeaning, Rules, NumbersKeep, grant_at, bitmap_octets}
 use Rattle.plan.proofs.Lawful.{grant_within}
 use Rattle.repeats.specs.Bitmaps.{acknowledged}

@@ -5,7 +5,7 @@ use Rattle.frame.specs.declared.faults.Fault.{Fault}
 use Rattle.frame.specs.declared.frames.Wish.{Wish}
 use Rattle.frame.specs.Writing.{fitting}
 use Rattle.plan.specs.declared.grant.Grant.{Grant}
-use Rattle.plan.specs.declared.grant.Numbers.{Numbers}
+use Rattle.plan.specs.declared.numbers.Numbers.{Numbers}
 use Rattle.plan.specs.Rules.{PlanMeaning}
 use Rattle.repeats.specs.Bitmaps.{place, acknowledged, nothing_heard}
 use Rattle.repeats.proofs.Alike.{zero_bit}

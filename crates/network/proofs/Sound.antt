@@ -5,7 +5,7 @@ use Rattle.frame.specs.declared.frames.Command.TheVariants as commands
 use Rattle.frame.specs.declared.frames.Configuration.{Configuration}
 use Rattle.frame.specs.Messages.{data_frame, acknowledgment_frame, command_frame, octets_of}
 use Rattle.plan.specs.declared.grant.Grant.{Grant}
-use Rattle.plan.specs.declared.grant.Numbers.{Numbers}
+use Rattle.plan.specs.declared.numbers.Numbers.{Numbers}
 use Rattle.plan.specs.Rules.{PlanMeaning, grant_at}
 use Rattle.repeats.specs.Bitmaps.{acknowledged, nothing_heard}
 use Rattle.repeats.specs.Starts.{repeat_start}

@@ -14,17 +14,17 @@ use Rattle.frame.specs.Messages.{Message, online_beacon, discovery_beacon, confi
 use Rattle.frame.specs.Refusals.{fault}
 use Rattle.frame.specs.Writing.{fitting, left_by}
 use Rattle.plan.specs.declared.grant.Grant.{Grant}
-use Rattle.plan.specs.declared.grant.Numbers.{Numbers}
+use Rattle.plan.specs.declared.numbers.Numbers.{Numbers}
 use Rattle.plan.specs.Rules.{PlanMeaning, Rules, grant_at, carried}
 use Rattle.plan.specs.Answers.{holding, number_with}
-use Rattle.plan.specs.Decisions.{held_now, held_later, held_before}
+use Rattle.plan.specs.TestsDecideTheRules.{held_now, held_later, held_before}
 use Rattle.plan.proofs.Lawful.{disjoint, grant_within, names_addressed}
 use Rattle.repeats.specs.Bitmaps.{bit, place, acknowledged, nothing_heard, marked_with}
 use Rattle.repeats.specs.Starts.{for_retransmission, sender_at}
 use Rattle.repeats.specs.Laws.{BitsAlike}
 use Rattle.repeats.proofs.Alike.{always_alike, stays_alike}
 use Rattle.repeats.proofs.Marking.{length-with_timeslots, marks}
-use Rattle.cargo.specs.Passing.{Receives}
+use Rattle.cargo.specs.ReceivedCargo.{Receives}
 use Rattle.coordinator.specs.declared.state.Heard.{Heard}
 use Rattle.coordinator.specs.declared.state.Inner.{Inner}
 use Rattle.coordinator.specs.declared.state.Mode.{Mode}

@@ -4,7 +4,7 @@ use Rattle.std.proofs.Common.{arith}
 use Rattle.frame.specs.declared.faults.Refusal.TheVariants as refusal
 use Rattle.frame.specs.declared.frames.Direction.TheVariants as directions
 use Rattle.frame.specs.Refusals.{fault}
-use Rattle.plan.specs.declared.grant.Numbers.{Numbers}
+use Rattle.plan.specs.declared.numbers.Numbers.{Numbers}
 use Rattle.plan.specs.Rules.{PlanMeaning, plan_of, Rules}
 use Rattle.cargo.specs.declared.reading.Reading.{Reading}
 use Rattle.cargo.specs.Images.{Apart}

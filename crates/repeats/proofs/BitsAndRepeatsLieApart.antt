@@ -2,7 +2,7 @@
 use Rattle.std.proofs.Common.{◌≡◌, ℕ, ◌+◌, ◌-◌, ◌<◌, ◌≤◌, false, List, Some, arith}
 use Rattle.std.proofs.lemmas.Bool.{and_right, lt-leb}
 use Rattle.plan.specs.declared.grant.Grant.{Grant}
-use Rattle.plan.specs.declared.grant.Numbers.{Numbers}
+use Rattle.plan.specs.declared.numbers.Numbers.{Numbers}
 use Rattle.plan.specs.Rules.{PlanMeaning, Rules, grant_at, Holds}
 use Rattle.plan.proofs.Lawful.{grant_within}
 use Rattle.repeats.specs.BitAndRepeatTimeslots.{before_bits, before_repeats, place, bit_count, for_retransmission}

@@ -1,7 +1,7 @@
 -- How many numbers below one pass a test.
 use Rattle.std.proofs.Common.{◌≡◌, ℕ, zero, suc, ◌+◌, ◌-◌, ◌<◌, ◌≤◌, Bool, true, false, cond, List, ap, ◌∙◌, inl, inr, add-zero, add-suc, arith}
 use Rattle.std.proofs.lemmas.Bool.{cases_Bool, and_parts, ltb-true}
-use Rattle.plan.specs.declared.grant.Numbers.{Numbers}
+use Rattle.plan.specs.declared.numbers.Numbers.{Numbers}
 use Rattle.repeats.specs.BitAndRepeatTimeslots.{before_bits}
 use Rattle.repeats.specs.Bitmaps.{missed}
 use Rattle.repeats.specs.Starts.{count_below, zeros}

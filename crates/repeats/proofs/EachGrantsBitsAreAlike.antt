@@ -5,10 +5,10 @@ use lib.ListN.{length-replicate, get_or-replicate}
 use Rattle.std.proofs.lemmas.List.{get_or_past}
 use Rattle.std.proofs.lemmas.Bool.{and_right, cases_lt, lt-ltb}
 use Rattle.plan.specs.declared.grant.Grant.{Grant}
-use Rattle.plan.specs.declared.grant.Numbers.{Numbers}
+use Rattle.plan.specs.declared.numbers.Numbers.{Numbers}
 use Rattle.plan.specs.Rules.{PlanMeaning, Rules, grant_at, Holds}
 use Rattle.plan.specs.Answers.{holding}
-use Rattle.plan.specs.Decisions.{holding_decides}
+use Rattle.plan.specs.TestsDecideTheRules.{holding_decides}
 use Rattle.plan.proofs.Lawful.{at_most_one_holder, grant_within}
 use Rattle.repeats.specs.BitAndRepeatTimeslots.{before_bits, place, timeslot_with}
 use Rattle.repeats.specs.Bitmaps.{bit, acknowledged, nothing_heard, Marks}

@@ -8,7 +8,7 @@ use Rattle.std.proofs.lemmas.Bool.{cases_eq, cases_lt, cases_order, cond-true, c
 use Rattle.std.proofs.lemmas.Bool.Decides.{nat_tests}
 use Rattle.frame.specs.Octets.{bits, octet}
 use Rattle.plan.specs.declared.grant.Grant.{Grant}
-use Rattle.plan.specs.declared.grant.Numbers.{Numbers}
+use Rattle.plan.specs.declared.numbers.Numbers.{Numbers}
 use Rattle.repeats.specs.BitAndRepeatTimeslots.{before_bits, place, timeslot_with}
 use Rattle.repeats.specs.Bitmaps.{bit, with_bit, with_timeslot, with_timeslots, marked_with, Marks}
 

@@ -2,7 +2,7 @@
 use Rattle.std.proofs.Common.{◌≡◌, ℕ, ◌+◌, ◌<◌, ◌≤◌, true, List, arith}
 use Rattle.std.proofs.lemmas.Bool.{and_from, le-leb, lt-ltb}
 use Rattle.plan.specs.declared.grant.Grant.{Grant}
-use Rattle.plan.specs.declared.grant.Numbers.{Numbers}
+use Rattle.plan.specs.declared.numbers.Numbers.{Numbers}
 use Rattle.repeats.specs.BitAndRepeatTimeslots.{before_repeats, for_retransmission}
 use Rattle.repeats.specs.Laws.{RepeatsIn}
 use Rattle.repeats.proofs.WhenRepeatsStart.{started}

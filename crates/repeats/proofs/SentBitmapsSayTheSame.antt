@@ -4,7 +4,7 @@ use Rattle.std.proofs.lemmas.List.{get_or-take}
 use Rattle.std.proofs.lemmas.Bool.{and_left, cases_lt, le-ltb}
 use Rattle.frame.specs.Octets.{bits}
 use Rattle.plan.specs.declared.grant.Grant.{Grant}
-use Rattle.plan.specs.declared.grant.Numbers.{Numbers}
+use Rattle.plan.specs.declared.numbers.Numbers.{Numbers}
 use Rattle.plan.specs.Rules.{bitmap_octets}
 use Rattle.repeats.specs.BitAndRepeatTimeslots.{before_bits, before_repeats, has_bit, place, bit_count}
 use Rattle.repeats.specs.Bitmaps.{bit, acknowledged, missed}

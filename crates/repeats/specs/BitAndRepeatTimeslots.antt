@@ -1,6 +1,6 @@
 -- Which base timeslots have a bit of the group acknowledgment, and which are for retransmission.
 use Rattle.std.specs.Prelude.{ℕ, ◌+◌, ◌-◌, Bool, ◌&&◌, nat_le, nat_lt}
-use Rattle.plan.specs.declared.grant.Numbers.{Numbers}
+use Rattle.plan.specs.declared.numbers.Numbers.{Numbers}
 
 -- how many base timeslots lie in front of the first that has a bit: those for retransmission
 unfoldable pub before_bits : Numbers → ℕ

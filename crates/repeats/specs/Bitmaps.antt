@@ -3,7 +3,7 @@
 use Rattle.std.specs.Prelude.{◌≡◌, ℕ, zero, suc, ◌+◌, ◌/◌, ◌%◌, ◌^◌, ◌≤◌, Bool, cond, not, ◌&&◌, List, length, replicate, ◌==◌, bit_or, nat_lt, slice_set}
 use Rattle.frame.specs.Octets.{bits, octet}
 use Rattle.plan.specs.declared.grant.Grant.{Grant}
-use Rattle.plan.specs.declared.grant.Numbers.{Numbers}
+use Rattle.plan.specs.declared.numbers.Numbers.{Numbers}
 use Rattle.plan.specs.Rules.{bitmap_octets}
 use Rattle.plan.specs.Answers.{holding}
 use Rattle.repeats.specs.BitAndRepeatTimeslots.{has_bit, place, timeslot_with, bit_count}

@@ -1,7 +1,7 @@
 -- Laws of the repeats, for every plan and every bitmap in which each grant's bits are alike.
 use Rattle.std.specs.Prelude.{◌≡◌, ℕ, ◌+◌, ◌<◌, ◌≤◌, true, ◌⊎◌, List, Some, None, Option}
 use Rattle.plan.specs.declared.grant.Grant.{Grant}
-use Rattle.plan.specs.declared.grant.Numbers.{Numbers}
+use Rattle.plan.specs.declared.numbers.Numbers.{Numbers}
 use Rattle.plan.specs.Rules.{PlanMeaning, Rules, grant_at, Holds}
 use Rattle.plan.specs.Laws.{Names}
 use Rattle.repeats.specs.BitAndRepeatTimeslots.{for_retransmission}

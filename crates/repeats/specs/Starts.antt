@@ -3,7 +3,7 @@ use Rattle.std.specs.Prelude.{ℕ, zero, suc, ◌+◌, Bool, true, false, cond, 
 use Rattle.frame.specs.declared.frames.Direction.{Direction}
 use Rattle.frame.specs.declared.frames.Direction.TheVariants.{Uplink, Bidirectional}
 use Rattle.plan.specs.declared.grant.Grant.{Grant}
-use Rattle.plan.specs.declared.grant.Numbers.{Numbers}
+use Rattle.plan.specs.declared.numbers.Numbers.{Numbers}
 use Rattle.plan.specs.Rules.{PlanMeaning, direction_of}
 use Rattle.plan.specs.Answers.{first_grant}
 use Rattle.repeats.specs.BitAndRepeatTimeslots.{before_repeats, for_retransmission}

@@ -1,6 +1,6 @@
 use Rattle.std.proofs.Common.{◌≡◌, ℕ, suc, ◌+◌, ◌-◌, ◌≤◌, List, length, sym, ap, ◌∙◌, subst, arith}
 use Rattle.plan.specs.declared.grant.Grant.{Grant}
-use Rattle.plan.specs.declared.grant.Numbers.{Numbers}
+use Rattle.plan.specs.declared.numbers.Numbers.{Numbers}
 use Rattle.repeats.specs.Bitmaps.{with_timeslot, with_timeslots, marked_with, Marks}
 use Rattle.repeats.proofs.EachGrantsBitsAreAlike.{always_alike, stays_alike}
 use Rattle.repeats.proofs.MarkingSetsTheGrantsBits.{length-with_timeslots, marks}

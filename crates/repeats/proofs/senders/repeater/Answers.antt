@@ -1,9 +1,9 @@
 use Rattle.std.proofs.Common.{◌≡◌, sym, ap, ◌∙◌, subst, rules}
 use Rattle.std.specs.Option.{option_map}
 use Rattle.plan.specs.declared.grant.Grant.{Grant}
-use Rattle.plan.specs.declared.grant.Numbers.{Numbers}
+use Rattle.plan.specs.declared.numbers.Numbers.{Numbers}
 use Rattle.plan.specs.Answers.{first_grant}
-use Rattle.plan.proofs.Listing.{first_by_find}
+use Rattle.plan.proofs.FindGivesTheFirstGrant.{first_by_find}
 use Rattle.repeats.specs.Laws.{NamesRepeater}
 use Rattle.repeats.specs.Starts.{repeat_start, starts_at, repeater_at}
 use Rattle.repeats.proofs.AnswersNameTheSender.{names_repeater}
