@@ -41,22 +41,6 @@ passed p (Some g) e = (g, refl, e)
 pub passes_there : (p : Grant → Bool) (o : Option Grant) (g : Grant) → o ≡ Some g → passing p o ≡ p g
 passes_there p o g e = ap (passing p) e
 
--- the same by the place in the list
-pub by_place : (gs : List Grant) (i : ℕ)
-    → numbered_in gs i ≡ cond (nat_le 1 i && nat_le i (length gs)) (Some (slice_index_or gs (i - 1) blank)) None
-by_place gs i =
-    elim (cases_lt i 1) [
-      | inl none ↦ cond-true _ _ _ (eq-eqb i 0 (omega arith)) ∙ sym (cond-false _ _ _ (and_left _ _ (lt-leb 1 i none)))
-      | inr low ↦
-          let some = ne_eqb i 0 (λ z. omega arith) in
-          elim (cases_lt (length gs) i) [
-            | inl far ↦ cond-false _ _ _ some ∙ slice_get_past gs (i - 1) (omega arith)
-                ∙ sym (cond-false _ _ _ (and_right _ _ (lt-leb i (length gs) far)))
-            | inr near ↦ cond-false _ _ _ some ∙ slice_get-get_or gs (i - 1) blank (omega arith)
-                ∙ sym (cond-true _ _ _ (and_from _ _ (le-leb 1 i low) (le-leb i (length gs) near)))
-          ]
-    ]
-
 -- a test of the grant with a number, and of the one that stands behind k others
 pub test_number : (gs : List Grant) (p : Grant → Bool) (i : ℕ) → 1 ≤ i → i ≤ length gs
     → passing p (numbered_in gs i) ≡ p (slice_index_or gs (i - 1) blank)
