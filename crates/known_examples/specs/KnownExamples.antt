@@ -36,8 +36,8 @@ pub record Refused : Type 0 where
 pub data Case : Type 0 where
   slot_size : ℕ → ℕ → Case  -- n, and the symbols of a base timeslot
   beacon : Numbers → List ℕ → List ℕ → Case  -- the bitmap of the superframe before, and the octets of the Online beacon
-  repeat : Numbers → List ℕ → Grant → Option ℕ → Case  -- a bitmap, a grant, and the first timeslot of its repeat, if it has one
-  fate_told : Numbers → List ℕ → Grant → Fate → Case  -- a bitmap, a grant, and the fate of what its device sent, by the beacon that carries it
+  repeat : Numbers → List ℕ → Grant → Option ℕ → Case  -- a bitmap, a grant, and its repeat's first timeslot, if any
+  fate_told : Numbers → List ℕ → Grant → Fate → Case  -- a bitmap, a grant, and the fate told by a beacon with the bitmap
   no_frame : List ℕ → Refused → Case  -- octets, and the refusal that they read as
   reading_octets : ℤ → ℕ → List ℕ → Case  -- value, quality, and the image
   panel_octets : List Bool → List ℕ → Case  -- inputs, and the image
@@ -53,7 +53,8 @@ OnlyRefused xs f = (answer : Result Panel Fault) → Reads image_of xs answer �
 
 -- the Online beacon with a bitmap, as a device takes it
 abbrev pub taken_with : Numbers → List ℕ → Beacon
-taken_with n bitmap = record { state = online; header = header_of n; timeslots = n.timeslots; bitmap = take (bitmap_octets n) bitmap }
+taken_with n bitmap =
+    record { state = online; header = header_of n; timeslots = n.timeslots; bitmap = take (bitmap_octets n) bitmap }
 
 abbrev pub Holds : Case → Type 0
 Holds (slot_size n symbols) = timeslot_symbols n ≡ symbols
@@ -71,7 +72,16 @@ AllHold (c ∷ cs) = Holds c × AllHold cs
 
 -- eight base timeslots of five octets, all uplink, of which the first few are for retransmission
 abbrev pub eight : ℕ → Numbers
-eight retransmission = record { timeslots = 8; uplink = 8; retransmission = retransmission; size = 5; management = 1; coordinator = 1; channel = 11; sequence = 7 }
+eight retransmission = record {
+  timeslots = 8;
+  uplink = 8;
+  retransmission = retransmission;
+  size = 5;
+  management = 1;
+  coordinator = 1;
+  channel = 11;
+  sequence = 7;
+}
 
 -- the grant of `width` timeslots from `first` on
 abbrev pub grant : ℕ → ℕ → Grant
@@ -79,7 +89,9 @@ grant first width = record { address = first; simple = first; first = first; wid
 
 -- of the owners of the timeslots 3 to 8, those of 3, 5 and 8 were heard; those of 4, 6 and 7 failed
 abbrev pub three_heard : List ℕ
-three_heard = marked_with (eight 2) (marked_with (eight 2) (marked_with (eight 2) nothing_heard (grant 3 1)) (grant 5 1)) (grant 8 1)
+three_heard =
+    marked_with (eight 2) (marked_with (eight 2) (marked_with (eight 2) nothing_heard (grant 3 1)) (grant 5 1))
+    (grant 8 1)
 
 abbrev pub short : Refused
 short = record { refusal = refusal.Short; number = 10; place = 2; layer = layer.Frame }
@@ -91,7 +103,8 @@ bad_cargo = record { refusal = refusal.Cargo; number = 16; place = 1; layer = la
 abbrev pub nine_inputs : List Bool
 nine_inputs = true ∷ false ∷ false ∷ false ∷ false ∷ false ∷ false ∷ false ∷ true ∷ []
 
--- the known examples: the repeats of grants in single timeslots go by the bitmap that the beacon carries, where the last one is left without;
+-- the known examples: the repeats of grants in single timeslots go by the bitmap that the beacon carries, where the
+-- last one is left without;
 -- those of wide grants go by a bitmap in which all failed
 abbrev pub cases : List Case
 cases =
