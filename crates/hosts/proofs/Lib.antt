@@ -1,1 +1,1 @@
-mod Hosts
+mod StaysOpen

@@ -1,4 +1,4 @@
 pub mod CoordinatorHosts
 pub mod Counts
 pub mod DeviceHosts
-pub mod Hosts
+pub mod HeldSuperframes

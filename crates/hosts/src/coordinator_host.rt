@@ -1,6 +1,6 @@
 // A coordinator together with its open superframe.
 ghost use Rattle.std.specs.Prelude.{◌≡◌, true};
-ghost use Rattle.hosts.specs.Hosts.{holds};
+ghost use Rattle.hosts.specs.HeldSuperframes.{holds};
 
 use cargo::Cargo;
 use coordinator::{Coordinator, Heard, Mode, OpenSuperframe, Opened, Record};
@@ -79,11 +79,15 @@ impl<P: SlotPlan> CoordinatorHost<P> {
 
     /// Opens a superframe, keeps it, and writes its beacon at the start of the buffer. Refused while one is open, and where the buffer is too short.
     pub fn open(&mut self, buffer: &mut [u8]) -> Result<Begun, Fault>
-        ensures answer { result ≡ begun_as (open_answer (P.meaning (plan_held self.old)).numbers (state_held self.old) buffer.old) }
-        ensures state { state_held self.new ≡ open_state (P.meaning (plan_held self.old)).numbers (state_held self.old) buffer.old }
-        ensures memory { buffer.new ≡ open_memory (P.meaning (plan_held self.old)).numbers (state_held self.old) buffer.old }
+        ensures answer { result
+            ≡ begun_as (open_answer (P.meaning (plan_held self.old)).numbers (state_held self.old) buffer.old) }
+        ensures state { state_held self.new
+            ≡ open_state (P.meaning (plan_held self.old)).numbers (state_held self.old) buffer.old }
+        ensures memory { buffer.new
+            ≡ open_memory (P.meaning (plan_held self.old)).numbers (state_held self.old) buffer.old }
         ensures plan { plan_held self.new ≡ plan_held self.old }
-        ensures open { open_held self.new ≡ open_after (open_answer (P.meaning (plan_held self.old)).numbers (state_held self.old) buffer.old) (open_held self.old) }
+        ensures open { open_held self.new
+            ≡ open_after (open_answer (P.meaning (plan_held self.old)).numbers (state_held self.old) buffer.old) (open_held self.old) }
     {
         let Opened { length, superframe } = self.coordinator.open(buffer)?;
         let number = superframe.number();
@@ -99,7 +103,8 @@ impl<P: SlotPlan> CoordinatorHost<P> {
         ensures none { open_held self.old ≡ None → result ≡ Err (fault refusal.Superframe 0) }
         ensures answer { (k : OpenSuperframe) → open_held self.old ≡ Some k
             → Hears C.image (P.meaning (plan_held self.old)) (state_held self.old) k.number timeslot octets.now result }
-        ensures state { state_held self.new ≡ hear_state (P.meaning (plan_held self.old)) (state_held self.old) timeslot result }
+        ensures state { state_held self.new
+            ≡ hear_state (P.meaning (plan_held self.old)) (state_held self.old) timeslot result }
         ensures plan { plan_held self.new ≡ plan_held self.old }
         ensures open { open_held self.new ≡ open_held self.old }
     {

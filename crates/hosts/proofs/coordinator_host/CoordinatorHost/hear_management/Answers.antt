@@ -1,8 +1,8 @@
 -- What is held stays the open superframe.
 use Rattle.std.proofs.Common.{◌≡◌, true, sym, subst}
 use Rattle.coordinator.specs.declared.state.Inner.{Inner}
-use Rattle.hosts.specs.Hosts.{holds}
-use Rattle.hosts.proofs.Hosts.{manage_keeps}
+use Rattle.hosts.specs.HeldSuperframes.{holds}
+use Rattle.hosts.proofs.StaysOpen.{manage_keeps}
 use Rattle.hosts.proofs.coordinator_host.CoordinatorHost.hear_management.Goals as goal
 
 pub invariant_of-self-2 : goal.invariant_of-self-2
