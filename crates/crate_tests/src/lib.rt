@@ -1,9 +1,17 @@
-//! Tests of crates by their public calls, which would make those crates be proved twice if they stood in them.
+//! Tests of crates by their public calls: outside vectors, printed text, sizes, and that each call can succeed. In their own crates they would have these proved twice.
 #![tactic(auto)]
 
 #[cfg(test)]
-mod console_answers;
+mod cargo_tests;
+#[cfg(test)]
+mod console_tests;
 #[cfg(test)]
 mod coordinator_tests;
 #[cfg(test)]
 mod device_tests;
+#[cfg(test)]
+mod hexadecimal_tests;
+#[cfg(test)]
+mod plan_tests;
+#[cfg(test)]
+mod repeats_tests;
