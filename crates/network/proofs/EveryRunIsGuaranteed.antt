@@ -100,8 +100,7 @@ module _ {C : Type 0} (image : C → List ℕ) (short : (x : C) → length (imag
     sent_by d there None found s is = absurd (s.no_sendings air.0 air.1 is)
     sent_by d there (Some h) found s is =
         let w = grant_found m rules (devices.address d) h found in
-        let p = heard_of image m rules short apart (steadily.marked_own m rules)
-        (steadily.marked_other m rules) d w.0 h w.1 k
+        let p = heard_of image m rules short apart d w.0 h w.1 k
         (v d) ds steady opened s t xs above air.0 air.1 is air.2 air.3 air.4 x received in
         let same : h ≡ g = cc in
         record {
@@ -135,8 +134,7 @@ module _ {C : Type 0} (image : C → List ℕ) (short : (x : C) → length (imag
     elsewhere e there differ (Some h) found s =
         let a = grant_found m rules (devices.address sender.device) g sender.found in
         let b = grant_found m rules (devices.address e) h found in
-        heard_elsewhere image m rules short apart (steadily.marked_own m rules)
-        (steadily.marked_other m rules) e a.0 b.0 g h a.1 b.1 (apart_from a b) k (v e) ds steady s t xs x above
+        heard_elsewhere image m rules short apart e a.0 b.0 g h a.1 b.1 (apart_from a b) k (v e) ds steady s t xs x above
       where
         apart_from : (a : (i : ℕ) × (grant_at m i ≡ Some g) × (g.address ≡ devices.address sender.device))
             (b : (i : ℕ) × (grant_at m i ≡ Some h) × (h.address ≡ devices.address e)) → a.0 ≡ b.0 → ⊥

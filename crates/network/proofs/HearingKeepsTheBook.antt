@@ -12,6 +12,7 @@ use Rattle.repeats.specs.BitAndRepeatTimeslots as offsets
 use Rattle.repeats.specs.BitAndRepeatTimeslots.{for_retransmission}
 use Rattle.repeats.specs.Starts.{repeat_start, sender_at}
 use Rattle.repeats.specs.Laws.{BitsAlike}
+use Rattle.repeats.proofs.MarkingLeavesOtherGrants.{marked_own, marked_other}
 use Rattle.repeats.proofs.AnswersNameTheSender.{names_sender}
 use Rattle.repeats.proofs.WhenRepeatsStart.{started}
 use Rattle.cargo.specs.Images.{Apart}
@@ -278,13 +279,8 @@ module _ {C : Type 0} (image : C → List ℕ) (m : PlanMeaning) (rules : Rules 
                 once = λ _. omega arith;
               }
 
-  -- the cargo laws, and what marking does to bits
-  module _ (short : (x : C) → length (image x) ≤ 124) (apart : Apart image)
-      (marked_own : (i : ℕ) (g : Grant) (xs : List ℕ) → grant_at m i ≡ Some g → length xs ≡ 32
-      → acknowledged m.numbers (marked_with m.numbers xs g) g.first ≡ true)
-      (marked_other : (i j : ℕ) (g h : Grant) (xs : List ℕ) → grant_at m i ≡ Some g → grant_at m j ≡ Some h
-      → (i ≡ j → ⊥) → length xs ≡ 32 → acknowledged m.numbers
-      (marked_with m.numbers xs g) h.first ≡ acknowledged m.numbers xs h.first) where
+  -- the cargo laws
+  module _ (short : (x : C) → length (image x) ≤ 124) (apart : Apart image) where
     -- cargo is read out of its frame as it was
     read_out : (x y : C) (xs : List ℕ) → xs ≡ frame_with image m.numbers x → Receives image xs (Ok y) → x ≡ y
     read_out x y xs e received =
@@ -314,7 +310,7 @@ module _ {C : Type 0} (image : C → List ℕ) (m : PlanMeaning) (rules : Rules 
               subst (λ (z : C). Sound image m.numbers e g k.opened (gathering m.numbers t k.gathered g) k.sent t v
                   (hand_up t xs g.simple z ∷ ds)) same
                   (own_heard e i g at k.opened opened k.gathered k.sent k.last v ds s f.0 t xs above w.cargo slot
-                  w.sent (marked_own i g k.gathered at steady.size)),
+                  w.sent (marked_own m rules i g k.gathered at steady.size)),
             )
 
         again : AgainFrame image m.numbers g k.sent k.last v s.book y
@@ -381,7 +377,7 @@ module _ {C : Type 0} (image : C → List ℕ) (m : PlanMeaning) (rules : Rules 
             (cond b k.gathered
             (marked_with m.numbers k.gathered g)) h.first ≡ acknowledged m.numbers k.gathered h.first
         bits_of true = refl
-        bits_of false = marked_other i j g h k.gathered here there differ steady.size
+        bits_of false = marked_other m rules i j g h k.gathered here there differ steady.size
 
         same_bit : acknowledged m.numbers
             (gathering m.numbers t k.gathered g) h.first ≡ acknowledged m.numbers k.gathered h.first

@@ -9,3 +9,4 @@ pub mod RepeatsAreApartAndInOrder
 pub mod RepeatsAreForRetransmission
 pub mod SentBitmapsSayTheSame
 pub mod WhenRepeatsStart
+pub mod MarkingLeavesOtherGrants
