@@ -8,6 +8,7 @@ use Rattle.frame.specs.declared.command.Configuration.{Configuration}
 use Rattle.frame.specs.Messages.{State, online, discovery, configuration, reset}
 use Rattle.plan.specs.declared.grant.Grant.{Grant}
 use Rattle.plan.specs.declared.numbers.Numbers.{Numbers}
+use Rattle.repeats.specs.BitAndRepeatTimeslots.{has_bit}
 use Rattle.repeats.specs.Bitmaps.{acknowledged}
 use Rattle.repeats.specs.Starts.{may_repeat, repeat_start}
 use Rattle.repeats.proofs.WhenRepeatsStart.{unwanted}
@@ -22,7 +23,7 @@ use Rattle.device.specs.Steps.{told_by, beacon_answer_by}
 -- what is acknowledged is not repeated
 no_repeat : (n : Numbers) (xs : List ℕ) (g : Grant) → acknowledged n xs g.first ≡ true → repeat_start n xs g ≡ None
 no_repeat n xs g e =
-    let no_bit = and_right (ltb n.retransmission g.first) _ (ap not e) in
+    let no_bit = and_right (has_bit n g.first) _ (ap not e) in
     unwanted n xs g (and_right (may_repeat n g) _ no_bit)
 
 -- an Online beacon's fate, by the bit and the room
