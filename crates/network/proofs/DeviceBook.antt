@@ -9,8 +9,7 @@ use Rattle.network.specs.History.{sent_since}
 use Rattle.network.specs.History.{waits}
 
 -- the cargo, the superframe in which it was sent, whether it was handed up from its own timeslot, whether as a
--- repeat, its fate, and
--- whether that was told by an Online beacon
+-- repeat, its fate, and whether that was told by an Online beacon
 pub record Line (C : Type 0) : Type 0 where
   pub cargo : C
   pub sent : ℕ
@@ -76,9 +75,8 @@ AllBefore k [] = Unit {0}
 AllBefore k (y ∷ ys) = (y.sent < k) × AllBefore k ys
 
 -- a book agrees with a history, for the device at place e with a simple address, where `again` says which timeslots
--- are for
--- retransmission: what waits and what was sent in superframe k, and the bit that tells whether the latter was handed
--- up
+-- are for retransmission: what waits and what was sent in superframe k, and the bit that tells whether the latter was
+-- handed up
 pub record Agrees {C : Type 0} (again : ℕ → Bool) (simple : Option ℕ) (e : ℕ) (ds : List (Deed C))
     (waiting sent : Option C)
     (k : ℕ) (bit : Bool) (book : List (Line C)) : Type 0 where

@@ -25,8 +25,7 @@ use Rattle.network.specs.History.{under_way, sent_since, waits}
 use Rattle.network.proofs.DeviceBook.{Line, Agrees}
 
 -- the bitmap that has the bit of cargo that was sent and has no fate yet: the gathered one once the device has had
--- its news of the open
--- superframe, and until then the one of the superframe before
+-- its news of the open superframe, and until then the one of the superframe before
 abbrev pub current : Bool → Bool → List ℕ → List ℕ → List ℕ
 current opened aware gathered sent = cond (opened && aware) gathered sent
 

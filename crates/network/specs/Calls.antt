@@ -16,8 +16,7 @@ use Rattle.device.specs.Steps.{send_answer, send_memory, send_state, write_answe
 use Rattle.device.specs.Steps.{take_answer, take_state}
 
 -- one call with its answer: what was handed over, what was answered and, where a buffer was lent, what it held before
--- and after.
--- Superframes go by their numbers, devices by their places.
+-- and after. Superframes go by their numbers, devices by their places.
 pub data Call (C : Type 0) : Type 0 where
   set_mode : Mode → Result (Unit {0}) Fault → Call C
   opens : List ℕ → Result Opened Fault → List ℕ → Call C

@@ -219,10 +219,8 @@ repeated k s t xs x =
     record { cargo = x; frame = record { number = k; own = false; superframe = s; timeslot = t; octets = xs } }
 
 -- the premises of the guarantee: the plan is lawful, images are short and apart, full addresses differ, and the calls
--- are a run.
--- In it every fate is told, of readings of which some are equal. Device 0 told Repeated of its acceptances 2 and 3:
--- the first of them
--- arrived as a repeat, and the second never arrived.
+-- are a run. In it every fate is told, of readings of which some are equal. Device 0 told Repeated of its acceptances
+-- 2 and 3: the first of them arrived as a repeat, and the second never arrived.
 pub record Example : Type 0 where
   pub lawful : Rules plan
   pub short : (x : Reading) → length (image_of x) ≤ 124

@@ -106,8 +106,7 @@ module _ {C : Type 0} (m : PlanMeaning) (devices : Devices) (ds : List (Deed C))
         × (y.superframe ≡ x.superframe)
 
     -- acceptances are those whose fates were told, the one that was sent in the own timeslot and has none yet, and
-    -- the one that waits; sent
-    -- without a fate is what was sent since the last news
+    -- the one that waits; what has no fate yet is what was sent since the last news
     abbrev pub AcceptancesAreAccountedFor : Type 0
     AcceptancesAreAccountedFor =
         (length (accepted d ds) ≡ length (told d ds) + under_way d again ds + waits d again ds)
@@ -175,9 +174,8 @@ module _ {C : Type 0} (m : PlanMeaning) (devices : Devices) (ds : List (Deed C))
           (k : ℕ) (xs : List ℕ) → numbered (own_frames d again ds) k ≡ Some xs
           → (x : C) × (numbered (accepted d ds) k ≡ Some x) × (xs ≡ octets_of (data_frame (image x)))
 
-      -- a repeat is the data frame of the acceptance whose fate was told last before it, and that fate is Repeated.
-      -- It is also the one that
-      -- was sent in the own timeslot last, up to the superframe before.
+      -- a repeat is the data frame of the acceptance whose fate was told last before it, and that fate is Repeated;
+      -- it is also the one that was sent in the own timeslot last, up to the superframe before
       abbrev pub RepeatsCarryWhatWasToldRepeated : Type 0
       RepeatsCarryWhatWasToldRepeated =
           (y : Repetition) → Among y (repeats d again ds)

@@ -37,8 +37,7 @@ pub record Learning : Type 0 where
   pub online : Bool
 
 -- a data frame of a device: the number of the acceptance that it carries, whether it is of the device's own timeslot
--- or else a repeat,
--- in which superframe of the run, at which timeslot, and its octets
+-- or else a repeat, in which superframe of the run, at which timeslot, and its octets
 pub record Frame : Type 0 where
   pub number : ℕ
   pub own : Bool
@@ -174,8 +173,7 @@ module _ {C : Type 0} where
     -- Of its frames: `again` says whether a timeslot is one for retransmission, and so not its own.
     module _ (again : ℕ → Bool) where
       -- the superframes in which it sent in its own timeslot, and the octets of these frames. Acceptances are sent in
-      -- their order, one
-      -- cargo waiting at a time, so the k-th of these frames is that of acceptance k.
+      -- their order, one cargo waiting at a time, so the k-th of these frames is that of acceptance k.
       abbrev pub own_sendings : List (Deed C) → List ℕ
       own_sendings ds = map (λ (x : Sending). x.superframe) (filter (is_own e again) (sendings ds))
 
@@ -214,8 +212,7 @@ module _ {C : Type 0} where
       repeats ds = picked repeat_by ds
 
       -- what was handed up of it, under its simple address, if it has one. What is heard in its own timeslot is the
-      -- frame that it sent there
-      -- last.
+      -- frame that it sent there last.
       abbrev pub arrival_by : Option ℕ → List (Deed C) → Deed C → Option (Arrival C)
       arrival_by address past (hand_up t xs simple x) =
           cond (is_under address simple)

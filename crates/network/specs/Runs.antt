@@ -37,11 +37,10 @@ module _ {C : Type 0} where
   abbrev pub Unaware : List (Deed C) → ℕ → Type 0
   Unaware ds d = (is_some (announced ds) ≡ true) × (learned d ds ≡ false)
 
-  -- the rules of the network for what happens next:
-  -- a device takes the beacon of the open superframe or is told that it missed it, once;
-  -- it sends only after that, and the close comes when all have had their news;
-  -- the coordinator hears what was sent in that timeslot of that superframe;
-  -- a device takes management frames that the coordinator wrote at any time
+  -- the rules of the network for what happens next: a device takes the beacon of the open superframe or is told that
+  -- it missed it, once; it sends only after that, and the close comes when all have had their news; the coordinator
+  -- hears what was sent in that timeslot of that superframe; a device takes management frames that the coordinator
+  -- wrote at any time
   abbrev pub KeepsRules : ℕ → List (Deed C) → Deed C → Type 0
   KeepsRules count ds closing = (d : ℕ) → d < count → learned d ds ≡ true
   KeepsRules count ds (hand_up t xs simple x) = OnAir ds t xs
