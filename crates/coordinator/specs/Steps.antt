@@ -65,12 +65,15 @@ made = record {
 
 -- Setting the mode.
 
+-- setting the mode is refused while a superframe is open
 abbrev pub mode_answer : Inner → Result (Unit {0}) Fault
 mode_answer s = cond s.opened (Err (fault refusal.Superframe 0)) (Ok tt)
 
+-- the state with another mode
 abbrev pub in_mode : Mode → Inner → Inner
 in_mode m s = record s { mode = m }
 
+-- the state after the mode was set, or refused
 abbrev pub mode_state : Inner → Mode → Inner
 mode_state s m = cond s.opened s (in_mode m s)
 
@@ -84,28 +87,35 @@ beacon_of n s = octets_of (beacon_in (state_of s.mode) n s.sent)
 abbrev pub opening : Numbers → Inner → List ℕ → Result ℕ Fault
 opening n s buffer = cond s.opened (Err (fault refusal.Superframe 0)) (fitting (beacon_of n s) buffer)
 
+-- the answer: the length of the beacon, and the open superframe with number k
 abbrev pub opened_as : ℕ → Result ℕ Fault → Result Opened Fault
 opened_as k (Ok written) = Ok (record { length = written; superframe = superframe_with k })
 opened_as k (Err f) = Err f
 
+-- what opening answers
 abbrev pub open_answer : Numbers → Inner → List ℕ → Result Opened Fault
 open_answer n s buffer = opened_as s.number (opening n s buffer)
 
+-- the buffer after opening: a refusal leaves it as it was
 abbrev pub open_memory : Numbers → Inner → List ℕ → List ℕ
 open_memory n s buffer = left_by (opening n s buffer) (beacon_of n s) buffer
 
+-- the state with its next superframe open
 abbrev pub begun : Inner → Inner
 begun s = record s { opened = true }
 
+-- the state after opening, or a refusal
 abbrev pub open_state : Numbers → Inner → List ℕ → Inner
 open_state n s buffer = cond (is_ok (opening n s buffer)) (begun s) s
 
 -- Hearing a data frame in a timeslot.
 
+-- the grant with a number, if there is one
 abbrev pub granted : PlanMeaning → Option ℕ → Option Grant
 granted m None = None
 granted m (Some i) = grant_at m i
 
+-- a grant, or the refusal that nobody sends at timeslot t
 abbrev pub somebody : ℕ → Option Grant → Result Grant Fault
 somebody t (Some g) = Ok g
 somebody t None = Err (fault refusal.Nobody t)
@@ -146,10 +156,12 @@ Hears image m s k t xs r = HearsFrom image m.numbers (listening m s k t) xs r
 abbrev pub gathering : Numbers → ℕ → List ℕ → Grant → List ℕ
 gathering n t bitmap g = cond (for_retransmission n t) bitmap (marked_with n bitmap g)
 
+-- the state after a frame of a grant was heard at timeslot t
 abbrev pub accepted : Numbers → Inner → ℕ → Option Grant → Inner
 accepted n s t None = s
 accepted n s t (Some g) = record s { last = t; gathered = gathering n t s.gathered g }
 
+-- the state after the answer `r`: a refusal leaves it as it was
 abbrev pub hear_state : {C : Type 0} → PlanMeaning → Inner → ℕ → Result (Heard C) Fault → Inner
 hear_state m s t r = cond (is_ok r) (accepted m.numbers s t (sending m s t)) s
 
@@ -161,12 +173,15 @@ pub record Managed : Type 0 where
   pub records : List Record
   pub handed : Option ℕ
 
+-- the record of grant i
 abbrev pub record_at : List Record → ℕ → Record
 record_at rs i = slice_index_or rs (i - 1) unheard
 
+-- the records with another one of grant i
 abbrev pub with_record : List Record → ℕ → Record → List Record
 with_record rs i r = slice_set rs (i - 1) r
 
+-- a record with one more mark
 abbrev pub as_seen : Record → Record
 as_seen r = record r { seen = true }
 
@@ -176,6 +191,7 @@ as_requested r = record r { requested = true }
 abbrev pub as_configured : Record → Record
 as_configured r = record r { configured = true }
 
+-- the two refusals of a sound frame
 abbrev pub unwanted : Result Managed Fault
 unwanted = Err (fault refusal.Unwanted 0)
 
@@ -200,6 +216,7 @@ handing m s address i (Some g) = Ok (record {
   handed = Some i;
 })
 
+-- the same, of the device with grant i, or of a stranger
 abbrev pub requested : PlanMeaning → Inner → ℕ → Option ℕ → Result Managed Fault
 requested m s address None = stranger
 requested m s address (Some i) = handing m s address i (grant_at m i)
@@ -225,15 +242,18 @@ commanded m s configuring (commands.ConfigurationStatus a simple w first width) 
     cond configuring (requested m s a (number_with m a)) unwanted
 commanded m s configuring c = unwanted
 
+-- a message, in Configuration or else in Discovery
 abbrev pub managed_by : PlanMeaning → Inner → Bool → Message → Result Managed Fault
 managed_by m s configuring (command_frame c) = commanded m s configuring c
 managed_by m s configuring (acknowledgment_frame a) = acknowledging s configuring a
 managed_by m s configuring message = unwanted
 
+-- whether a state is Configuration
 abbrev pub is_configuring : State → Bool
 is_configuring configuration = true
 is_configuring state = false
 
+-- a frame that was read, or the fault of reading it
 abbrev pub managed_as : PlanMeaning → Inner → Result Told Fault → Result Managed Fault
 managed_as m s (Ok t) = managed_by m s (is_configuring (state_of s.mode)) t.message
 managed_as m s (Err f) = Err f
@@ -249,17 +269,21 @@ abbrev pub replying : Result Managed Fault → List ℕ → Result ℕ Fault
 replying (Ok x) buffer = fitting x.reply buffer
 replying (Err f) buffer = Err f
 
+-- the buffer after the reply: a refusal leaves it as it was
 abbrev pub reply_memory : Result Managed Fault → List ℕ → List ℕ
 reply_memory (Ok x) buffer = left_by (fitting x.reply buffer) x.reply buffer
 reply_memory (Err f) buffer = buffer
 
+-- the state with the records and the grant to be acknowledged that a frame leads to
 abbrev pub noted : Inner → Managed → Inner
 noted s x = record s { records = x.records; handed = x.handed }
 
+-- the state after the reply: a refusal, also for want of space, leaves it as it was
 abbrev pub reply_state : Inner → Result Managed Fault → List ℕ → Inner
 reply_state s (Ok x) buffer = cond (is_ok (fitting x.reply buffer)) (noted s x) s
 reply_state s (Err f) buffer = s
 
+-- what a management frame is answered, and the buffer and the state after it
 abbrev pub manage_answer : PlanMeaning → Inner → ℕ → List ℕ → List ℕ → Result ℕ Fault
 manage_answer m s k xs buffer = replying (managing m s k xs) buffer
 
@@ -285,10 +309,12 @@ ended s = record s {
   sent = s.gathered;
 }
 
+-- the state after closing: another superframe changes nothing
 abbrev pub close_state : Inner → ℕ → Inner
 close_state s k = cond (is_open s k) (ended s) s
 
--- Asking for the record of grant i.
+-- Asking for a record.
 
+-- the record of grant i, if the plan has one
 abbrev pub record_answer : PlanMeaning → Inner → ℕ → Option Record
 record_answer m s i = cond (i == 0 || nat_lt (count_of m) i) None (Some (record_at s.records i))
