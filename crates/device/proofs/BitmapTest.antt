@@ -40,8 +40,8 @@ fits_tells n xs = (
         ];
       },
   λ fits.
-      let padding = clearing xs _ _ (λ j low. fits.padding j (omega arith)) in
-      and_from _ _ (eq-eqb (length xs) (bitmap_octets n) fits.size) padding,
+      and_from _ _ (eq-eqb (length xs) (bitmap_octets n) fits.size)
+      (clearing xs _ _ (λ j low. fits.padding j (omega arith))),
 )
 
 pub fits_tested : (b : Bool) (n : Numbers) (xs : List ℕ) → Decides b (Fits n xs) → b ≡ bitmap_fits n xs
