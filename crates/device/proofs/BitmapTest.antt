@@ -40,9 +40,8 @@ fits_tells n xs = (
         ];
       },
   λ fits.
-      let first = n.timeslots - n.retransmission in
-      let padding = clearing xs first (8 * length xs - first) (λ j low. fits.padding j low) in
-      and_from _ _ (eq-eqb (length xs) (bitmap_octets n) fits.size) padding,
+      and_from _ _ (eq-eqb (length xs) (bitmap_octets n) fits.size)
+      (clearing xs _ _ (λ j low. fits.padding j (omega arith))),
 )
 
 pub fits_tested : (b : Bool) (n : Numbers) (xs : List ℕ) → Decides b (Fits n xs) → b ≡ bitmap_fits n xs

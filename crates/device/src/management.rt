@@ -8,7 +8,7 @@ use crate::member::Member;
 use crate::phase::Phase;
 use cargo::Cargo;
 use frame::{
-    Acknowledged, Command, Configuration, Fault, Frame, Refusal, Wish, write_acknowledgment,
+    Acknowledged, Command, Configuration, Fault, Frame, Refusal, write_acknowledgment,
     write_command,
 };
 
