@@ -2,4 +2,4 @@
 #![tactic(auto)]
 
 #[cfg(test)]
-mod hexadecimal;
+mod hexadecimal_tests;
