@@ -79,7 +79,16 @@ impl Program {
     // What the command line asks for.
     fn asked<R: Env + Print + Eprint + AllocGlobal>(&self, rt: &R) -> io::Result<Asked> {
         let heap = rt.alloc();
-        let words: Vec<String> = env::args(rt)?.collect(heap)?;
+        let words = match env::args(rt) {
+            Ok(words) => words,
+            Err(error) if error.kind() == ErrorKind::InvalidData => {
+                let name = self.name;
+                rt.eprintln(format_args!("{name}: the command line is no text in UTF-8"))?;
+                return Ok(Asked::End(ExitCode::FAILURE));
+            }
+            Err(error) => return Err(error),
+        };
+        let words: Vec<String> = words.collect(heap)?;
         let file = Arg::new(heap, self.file).help(self.file_help);
         let command = Command::new(heap, self.name)
             .version(self.version)

@@ -42,10 +42,10 @@ impl<'a> Answers<'a> {
         }
     }
 
-    // Writes a note, at once.
-    pub(crate) fn note(&mut self, text: impl Display + Drop) -> io::Result<()> {
+    // Writes a note, at once. Where standard error takes none, it is lost, and the script goes on.
+    pub(crate) fn note(&mut self, text: impl Display + Drop) {
         let number = self.number;
-        writeln!(self.notes, "line {number}: {text}")?;
-        self.notes.flush()
+        let _ = writeln!(self.notes, "line {number}: {text}");
+        let _ = self.notes.flush();
     }
 }

@@ -62,7 +62,7 @@ impl Console {
         network_commands::end(network);
     }
 
-    /// Runs one line of the script: carries it out, or answers what keeps it. Fails only for memory, and where an answer or a note cannot be written.
+    /// Runs one line of the script: carries it out, or answers what keeps it. Fails only for memory, and where an answer cannot be written.
     pub fn run(&mut self, line: &[u8], answers: &mut Answers<'_>) -> io::Result<()> {
         match self.obey(line, answers) {
             Ok(()) => Ok(()),
@@ -78,7 +78,7 @@ impl Console {
             Ok(None) => Ok(()),
             Ok(Some(request)) => self.answer(request, answers),
             Err(misread) => {
-                answers.note(misread)?;
+                answers.note(misread);
                 Err(Obstacle::NotUnderstood.into())
             }
         }

@@ -35,13 +35,13 @@ fn play(hall: &mut Hall<AnyPlan>, superframes: u32, answers: &mut Answers<'_>) -
     hall.configure()?;
     for station in hall.stations() {
         if let Some(reason) = station.too_narrow() {
-            answers.note(reason)?;
+            answers.note(reason);
         }
     }
     for done in 1..=superframes {
         hall.carry()?;
         if done % STRETCH == 0 {
-            answers.note(format_args!("{done} of {superframes} superframes"))?;
+            answers.note(format_args!("{done} of {superframes} superframes"));
         }
     }
     Ok(())

@@ -75,7 +75,8 @@ impl Capture {
             writeln!(self.out, "{number}: {report}")?;
             if let Report::NotOctets = report {
                 let word = self.line.word();
-                writeln!(self.notes, "line {number}: {word}")?;
+                // Where standard error takes no note, it is lost, and the capture goes on.
+                let _ = writeln!(self.notes, "line {number}: {word}");
             }
         }
         Ok(())
@@ -86,8 +87,8 @@ impl Capture {
         self.report()?;
         let tally = self.tally;
         writeln!(self.out, "{tally}")?;
-        self.out.flush()?;
-        self.notes.flush()
+        let _ = self.notes.flush();
+        self.out.flush()
     }
 }
 

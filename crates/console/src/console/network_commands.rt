@@ -37,7 +37,7 @@ impl Console {
     ) -> Result<(), Stop> {
         if !order.suits(self.kind) {
             let kind = self.kind;
-            answers.note(format_args!("the offer is no {kind}, which the network carries"))?;
+            answers.note(format_args!("the offer is no {kind}, which the network carries"));
             return Err(Obstacle::NotUnderstood.into());
         }
         self.accepted()?;
