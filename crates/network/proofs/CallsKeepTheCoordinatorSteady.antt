@@ -35,6 +35,7 @@ use Rattle.coordinator.specs.declared.mode.Mode.{Mode}
 use Rattle.coordinator.specs.declared.open_superframe.Opened.{Opened}
 use Rattle.coordinator.specs.declared.open_superframe.OpenSuperframe.{OpenSuperframe}
 use Rattle.coordinator.specs.Frames.{state_of, configuration_for}
+use Rattle.coordinator.specs.OpenSuperframes.{superframe_with}
 use Rattle.coordinator.specs.Steps as coordinator
 use Rattle.coordinator.specs.Steps.{is_online, is_managing, is_configuring, is_open, in_mode, mode_state, beacon_of}
 use Rattle.coordinator.specs.Steps.{opened_as, open_answer, open_memory, begun, open_state, somebody, sending}
@@ -242,7 +243,7 @@ module _ {C : Type 0} (m : PlanMeaning) (k : Inner) (ds : List (Deed C)) where
   open_so buffer (Err f) (Ok o) memory d e h s = absurd cc
   open_so buffer (Ok l) (Err f) memory d e h s = absurd cc
   open_so buffer (Ok l) (Ok o) memory d e h s =
-      let same : o ≡ record { length = l; superframe = record { number = k.number } } = cc in
+      let same : o ≡ record { length = l; superframe = superframe_with k.number } = cc in
       let q : o.length ≡ l = ap (λ (x : Opened). x.length) same in
       opened_so (take o.length memory)
       (ap (λ (x : ℕ). take x memory) q
@@ -274,7 +275,7 @@ module _ {C : Type 0} (m : PlanMeaning) (k : Inner) (ds : List (Deed C)) where
 
   pub close_steady : (j : ℕ) (r : Result (Unit {0}) (Fault × OpenSuperframe)) → r ≡ close_answer k j → Steady m k ds
       → Steady m (close_state k j) (deed (closes j r) ∷ ds)
-  close_steady j r e s = close_so j (is_open k j) (fault refusal.Superframe 0, record { number = j }) r e s
+  close_steady j r e s = close_so j (is_open k j) (fault refusal.Superframe 0, superframe_with j) r e s
 
 -- Hearing a management frame.
 

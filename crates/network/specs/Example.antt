@@ -11,6 +11,7 @@ use Rattle.cargo.specs.declared.reading.Reading.{Reading}
 use Rattle.cargo.specs.Images.{Apart}
 use Rattle.cargo.specs.Readings.{image_of}
 use Rattle.coordinator.specs.declared.mode.Mode.TheVariants as mode
+use Rattle.coordinator.specs.OpenSuperframes.{superframe_with}
 use Rattle.device.specs.declared.fate.Fate.{Fate}
 use Rattle.device.specs.declared.fate.Fate.TheVariants as fate
 use Rattle.network.specs.Calls.{Call, set_mode, opens, hears, hears_management, closes, takes_beacon, misses_beacon}
@@ -88,7 +89,7 @@ thanks = 132 ∷ 15 ∷ []
 
 -- calls that go well: superframe k is opened with a beacon of these octets,
 abbrev pub opening : ℕ → List ℕ → Call Reading
-opening k xs = opens buffer (Ok (record { length = length xs; superframe = record { number = k } })) (holding xs)
+opening k xs = opens buffer (Ok (record { length = length xs; superframe = superframe_with k })) (holding xs)
 
 -- is closed,
 abbrev pub closing : ℕ → Call Reading
