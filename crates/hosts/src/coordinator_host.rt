@@ -1,5 +1,6 @@
 // A coordinator together with its open superframe.
 ghost use Rattle.std.specs.Prelude.{◌≡◌, true};
+ghost use Rattle.coordinator.specs.Coordinators.{state_in};
 ghost use Rattle.hosts.specs.HeldSuperframes.{holds};
 
 use cargo::Cargo;
@@ -13,7 +14,7 @@ use plan::SlotPlan;
 pub struct CoordinatorHost<P> {
     coordinator: Coordinator<P>,
     held: Option<OpenSuperframe>,
-    ghost own: { holds coordinator.inner held ≡ true },
+    ghost own: { holds (state_in coordinator) held ≡ true },
 }
 
 /// A superframe that was opened.

@@ -13,7 +13,8 @@ pub struct DeviceHost<C> {
 }
 
 impl<C: Cargo + Drop> DeviceHost<C> {
-    ghost use Rattle.std.specs.Prelude.{◌≡◌, is_some, OnOk, OnErr};
+    ghost use Rattle.std.specs.Prelude.{◌≡◌, OnOk, OnErr};
+    ghost use Rattle.device.specs.Devices.{address_in, phase_in, configuration_in, is_waiting};
     ghost use Rattle.device.specs.Steps.{made, beacon_answer, beacon_state, missed_answer, missed_state, offer_answer, offer_state};
     ghost use Rattle.device.specs.Steps.{send_answer, send_state, send_memory, write_answer, write_state, write_memory, take_answer, take_state};
     ghost use Rattle.hosts.specs.Counts.{no_counts, with_accepted, with_fate, with_told};
@@ -32,28 +33,28 @@ impl<C: Cargo + Drop> DeviceHost<C> {
 
     /// Its full address.
     pub fn address(&self) -> u64
-        ensures { result ≡ (device_held self.now).address }
+        ensures { result ≡ address_in (device_held self.now) }
     {
         self.device.address()
     }
 
     /// How far it has come.
     pub fn phase(&self) -> Phase
-        ensures { result ≡ (device_held self.now).phase }
+        ensures { result ≡ phase_in (device_held self.now) }
     {
         self.device.phase()
     }
 
     /// Its grant, once it is configured.
     pub fn configuration(&self) -> Option<Configuration>
-        ensures { result ≡ (device_held self.now).configuration }
+        ensures { result ≡ configuration_in (device_held self.now) }
     {
         self.device.configuration()
     }
 
     /// Whether cargo waits to be sent.
     pub fn is_waiting(&self) -> bool
-        ensures { result ≡ is_some (device_held self.now).waiting }
+        ensures { result ≡ is_waiting (device_held self.now) }
     {
         self.device.is_waiting()
     }
