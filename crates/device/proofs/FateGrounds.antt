@@ -1,5 +1,5 @@
 -- A told fate has its grounds.
-use Rattle.std.proofs.Common.{◌≡◌, ℕ, Bool, true, false, cond, not, ltb, List, is_some, Some, None, Ok, Option}
+use Rattle.std.proofs.Common.{◌≡◌, ℕ, Bool, true, false, cond, not, List, is_some, Some, None, Ok, Option}
 use Rattle.std.proofs.Common.{Result, sym, refl, ap, ◌∙◌}
 use Rattle.std.proofs.lemmas.Bool.{and_right}
 use Rattle.frame.specs.declared.faults.Fault.{Fault}

@@ -1,5 +1,5 @@
 -- What a host has of its coordinator, and what its calls tell beside the coordinator's own answers.
-use Rattle.std.specs.Prelude.{Some, None, Ok, Err, Option, Result}
+use Rattle.std.specs.Prelude.{Some, Ok, Err, Option, Result}
 use Rattle.frame.specs.declared.faults.Fault.{Fault}
 use Rattle.coordinator.specs.declared.state.Inner.{Inner}
 use Rattle.coordinator.specs.Coordinators.{plan_in, state_in}

@@ -1,7 +1,6 @@
 -- Which frame an arrival was read out of, and in which superframes frames are sent.
-use Rattle.std.proofs.Common.{◌≡◌, ℕ, suc, ◌<◌, ◌≤◌, Bool, true, false, cond, not, eqb, leb, List, [], ◌∷◌, length}
+use Rattle.std.proofs.Common.{◌≡◌, ℕ, suc, ◌≤◌, Bool, true, false, cond, not, eqb, List, [], ◌∷◌, length}
 use Rattle.std.proofs.Common.{is_some, Some, None, Option, sym, refl, ap, ◌∙◌, subst, inl, inr, ⊎_elim, arith}
-use lib.ListN.{length-map}
 use Rattle.std.proofs.lemmas.Bool.{both_ways, cases_eq, eq-eqb, ne_eqb, le-ltb}
 use Rattle.plan.specs.declared.grant.Grant.{Grant}
 use Rattle.plan.specs.Rules.{PlanMeaning, Rules}
@@ -11,7 +10,7 @@ use Rattle.coordinator.specs.declared.state.Inner.{Inner}
 use Rattle.device.specs.declared.device.Device.{Device}
 use Rattle.device.specs.declared.fate.Fate.{Fate}
 use Rattle.network.specs.Deeds.{Deed, opening, hand_up, news, transmission}
-use Rattle.network.specs.History.{numbered, Among, Sending, Telling, Arrival, Frame, frame_at, before, is_under}
+use Rattle.network.specs.History.{numbered, Among, Sending, Telling, Arrival, Frame, frame_at, before}
 use Rattle.network.specs.History.{superframes, announced, learned, sendings, told, own_sendings, repeated, arrivals}
 use Rattle.network.specs.History.{frames}
 use Rattle.network.specs.Guarantee.{grant_of, simple_of, EveryArrivalIsOfAFrameOfItsDevice}
@@ -25,7 +24,7 @@ use Rattle.network.proofs.OwnCallsKeepTheBook.{Sends}
 use Rattle.network.proofs.FramesAreOwnOrRepeats.{own_is_no_repeat, repeats_are_for_retransmission}
 use Rattle.network.proofs.RepeatsAreOfTheLastTold.{last_told}
 use Rattle.network.proofs.HearingKeepsTheBook.{grant_found}
-use Rattle.network.proofs.StateAgreesWithHistory.{Sound, OwnFrame, AgainFrame, Standing}
+use Rattle.network.proofs.StateAgreesWithHistory.{Sound, OwnFrame, Standing}
 
 module _ {C : Type 0} (image : C → List ℕ) (m : PlanMeaning) (devices : Devices) (e : ℕ) where
   abbrev r : ℕ → Bool

@@ -1,11 +1,11 @@
 -- The coordinator's side of a run: what marking does to the bits, what hearing tells, and that what is held of the
 -- coordinator is kept.
-use Rattle.std.proofs.Common.{◌≡◌, ℕ, zero, suc, ◌+◌, ◌<◌, Bool, true, false, cond, not, ◌&&◌, ◌||◌, eqb, ltb, leb}
+use Rattle.std.proofs.Common.{◌≡◌, ℕ, ◌<◌, Bool, true, false, cond, not, ◌||◌, eqb, ltb, leb}
 use Rattle.std.proofs.Common.{List, [], ◌∷◌, length, take, drop, is_ok, Some, None, Ok, Err, Option, Result, sym}
 use Rattle.std.proofs.Common.{refl, ap, ◌∙◌, subst, inl, inr, arith}
 use lib.ListN.{length-replicate}
 use Rattle.std.proofs.lemmas.List.{take_at}
-use Rattle.std.proofs.lemmas.Bool.{and_parts, cond-false, leb-false, lt-ltb, not-false}
+use Rattle.std.proofs.lemmas.Bool.{and_parts, cond-false, leb-false, not-false}
 use Rattle.frame.specs.declared.faults.Fault.{Fault}
 use Rattle.frame.specs.declared.faults.Refusal.TheVariants as refusal
 use Rattle.frame.specs.declared.acknowledgment.Acknowledged.{Acknowledged}
@@ -20,14 +20,13 @@ use Rattle.frame.specs.Writing.{fitting, left_by}
 use Rattle.plan.specs.declared.grant.Grant.{Grant}
 use Rattle.plan.specs.declared.numbers.Numbers.{Numbers}
 use Rattle.plan.specs.Rules.{PlanMeaning, Rules, grant_at, carried}
-use Rattle.plan.specs.Answers.{holding, number_with}
-use Rattle.plan.specs.TestsDecideTheRules.{held_now, held_later, held_before}
-use Rattle.plan.proofs.Lawful.{disjoint, grant_within, names_addressed}
-use Rattle.repeats.specs.BitAndRepeatTimeslots.{before_bits, place, timeslot_with, for_retransmission}
-use Rattle.repeats.specs.Bitmaps.{bit, acknowledged, nothing_heard, marked_with}
+use Rattle.plan.specs.Answers.{number_with}
+use Rattle.plan.proofs.Lawful.{names_addressed}
+use Rattle.repeats.specs.BitAndRepeatTimeslots.{for_retransmission}
+use Rattle.repeats.specs.Bitmaps.{nothing_heard, marked_with}
 use Rattle.repeats.specs.Starts.{sender_at}
 use Rattle.repeats.specs.Laws.{BitsAlike}
-use Rattle.repeats.proofs.EachGrantsBitsAreAlike.{always_alike, stays_alike}
+use Rattle.repeats.proofs.EachGrantsBitsAreAlike.{always_alike}
 use Rattle.cargo.specs.ReceivedCargo.{Receives}
 use Rattle.coordinator.specs.declared.heard.Heard.{Heard}
 use Rattle.coordinator.specs.declared.state.Inner.{Inner}
@@ -43,11 +42,9 @@ use Rattle.coordinator.specs.Steps.{listening, heard_from, HearsFrom, Hears, gra
 use Rattle.coordinator.specs.Steps.{discovered, handing, requested, thanked, acknowledging, commanded, managed_by}
 use Rattle.coordinator.specs.Steps.{managed_as, managing, replying, reply_memory, noted, reply_state, manage_answer}
 use Rattle.coordinator.specs.Steps.{manage_memory, manage_state, ended, close_answer, close_state}
-use Rattle.device.specs.declared.fate.Fate.{Fate}
-use Rattle.network.specs.Calls.{set_mode, opens, hears, hears_management, closes, takes_beacon, misses_beacon}
-use Rattle.network.specs.Calls.{is_offered, sends, writes_management, takes_management}
-use Rattle.network.specs.Deeds.{Deed, opening, closing, hand_up, reply, news, acceptance, transmission, taking}
-use Rattle.network.specs.Deeds.{nothing, sent_deed, deed}
+use Rattle.network.specs.Calls.{set_mode, opens, hears, hears_management, closes}
+use Rattle.network.specs.Deeds.{Deed, opening, closing, hand_up, reply, transmission}
+use Rattle.network.specs.Deeds.{nothing, deed}
 use Rattle.network.specs.History.{Sending, superframes, announced, replies, sendings}
 use Rattle.repeats.proofs.MarkingLeavesOtherGrants.{marked_size, marked_alike}
 use Rattle.network.proofs.CallsAtADevice.{OfADevice}

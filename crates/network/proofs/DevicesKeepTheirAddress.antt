@@ -6,7 +6,7 @@ use Rattle.device.specs.declared.device.Device.{Device}
 use Rattle.device.specs.Beacons.{Beacon, beacon_taken}
 use Rattle.device.specs.Phases.{thanked}
 use Rattle.device.specs.Steps as device
-use Rattle.network.specs.Calls.{Call, set_mode, opens, hears, hears_management, closes, takes_beacon, misses_beacon}
+use Rattle.network.specs.Calls.{Call, takes_beacon, misses_beacon}
 use Rattle.network.specs.Calls.{is_offered, sends, writes_management, takes_management, device_after}
 use Rattle.network.specs.Runs.{Devices, hall}
 

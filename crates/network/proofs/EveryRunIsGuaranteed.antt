@@ -12,8 +12,6 @@ use Rattle.cargo.specs.Images.{Apart}
 use Rattle.cargo.specs.ReceivedCargo.{Receives}
 use Rattle.coordinator.specs.declared.heard.Heard.{Heard}
 use Rattle.coordinator.specs.declared.state.Inner.{Inner}
-use Rattle.coordinator.specs.declared.open_superframe.Opened.{Opened}
-use Rattle.coordinator.specs.declared.open_superframe.OpenSuperframe.{OpenSuperframe}
 use Rattle.coordinator.specs.Steps as coordinator
 use Rattle.device.specs.declared.device.Device.{Device}
 use Rattle.device.specs.declared.fate.Fate.{Fate}

@@ -1,5 +1,5 @@
 -- What happens elsewhere keeps how a device stands.
-use Rattle.std.proofs.Common.{◌≡◌, ℕ, zero, suc, ◌-◌, ◌≤◌, Bool, true, false, cond, eqb, List, [], ◌∷◌, map, take}
+use Rattle.std.proofs.Common.{◌≡◌, ℕ, suc, ◌-◌, ◌≤◌, Bool, true, false, cond, eqb, List, [], ◌∷◌, map, take}
 use Rattle.std.proofs.Common.{is_ok, Some, None, Ok, Err, Option, Result, sym, refl, ap, ◌∙◌, subst, inl, inr, arith}
 use Rattle.std.proofs.lemmas.Bool.{and_parts, and_right, eqb-false}
 use Rattle.frame.specs.declared.faults.Fault.{Fault}
@@ -19,9 +19,9 @@ use Rattle.coordinator.specs.Steps as coordinator
 use Rattle.device.specs.declared.device.Device.{Device}
 use Rattle.device.specs.declared.fate.Fate.{Fate}
 use Rattle.device.specs.Steps as device
-use Rattle.network.specs.Calls.{set_mode, opens, hears_management, closes, takes_beacon, misses_beacon, is_offered}
-use Rattle.network.specs.Calls.{sends, writes_management, takes_management, is_at}
-use Rattle.network.specs.Deeds.{Deed, opening, closing, hand_up, reply, news, acceptance, transmission, taking}
+use Rattle.network.specs.Calls.{set_mode, opens, hears_management, closes}
+use Rattle.network.specs.Calls.{is_at}
+use Rattle.network.specs.Deeds.{Deed, opening, closing, hand_up, reply, news, acceptance, transmission}
 use Rattle.network.specs.Deeds.{nothing, deed}
 use Rattle.network.specs.History.{Among, Sending, superframes, learned, sendings, accepted, told, own_sendings}
 use Rattle.network.specs.History.{arrivals, under_way, sent_since, waits}

@@ -1,8 +1,8 @@
 -- The calls at a device keep what holds of it.
-use Rattle.std.proofs.Common.{◌≡◌, ℕ, suc, ◌<◌, ◌≤◌, Bool, true, false, cond, not, ◌||◌, eqb, ltb, leb, ◌⊎◌, List, []}
+use Rattle.std.proofs.Common.{◌≡◌, ℕ, suc, Bool, true, false, cond, not, ◌||◌, eqb, ltb, ◌⊎◌, List, []}
 use Rattle.std.proofs.Common.{◌∷◌, ◌++◌, map, length, take, drop, is_some, is_ok, Some, None, Ok, Err, Option, Result}
 use Rattle.std.proofs.Common.{sym, refl, ap, ◌∙◌, subst, inl, inr, arith}
-use Rattle.std.proofs.lemmas.Bool.{both_ways, cond_both, eq-eqb, eqb-true, le-leb, lt-leb, or_parts, not-false}
+use Rattle.std.proofs.lemmas.Bool.{both_ways, cond_both, eq-eqb, eqb-true, or_parts, not-false}
 use Rattle.std.proofs.lemmas.List.{take_at}
 use Rattle.frame.specs.declared.faults.Fault.{Fault}
 use Rattle.frame.specs.declared.command.Configuration.{Configuration}
@@ -16,7 +16,7 @@ use Rattle.frame.proofs.WrittenReadsBack.{reads_back}
 use Rattle.plan.specs.declared.grant.Grant.{Grant}
 use Rattle.plan.specs.declared.numbers.Numbers.{Numbers}
 use Rattle.plan.specs.Rules.{PlanMeaning, Rules, grant_at}
-use Rattle.plan.proofs.Lawful.{addresses_differ, grant_keeps, grant_within}
+use Rattle.plan.proofs.Lawful.{addresses_differ, grant_keeps}
 use Rattle.repeats.specs.BitAndRepeatTimeslots.{for_retransmission}
 use Rattle.repeats.specs.Starts.{repeat_start}
 use Rattle.network.proofs.FramesAreOwnOrRepeats.{own_is_no_repeat, repeats_are_for_retransmission}

@@ -1,10 +1,10 @@
 -- Of the open superframe, once a device had its news: what it sent last before is the acceptance whose fate it told
 -- last.
-use Rattle.std.proofs.Common.{◌≡◌, ℕ, suc, ◌<◌, Bool, true, ltb, List, [], ◌∷◌, ◌++◌, map, length, Some, None, Option}
+use Rattle.std.proofs.Common.{◌≡◌, ℕ, suc, Bool, true, List, [], ◌∷◌, ◌++◌, map, length, Some, None, Option}
 use Rattle.std.proofs.Common.{refl, ap, ◌∙◌, arith}
 use Rattle.std.proofs.lemmas.Bool.{lt-ltb, le-ltb}
 use Rattle.network.specs.Deeds.{Deed}
-use Rattle.network.specs.History.{before, superframes, learned, repeated}
+use Rattle.network.specs.History.{before, superframes, repeated}
 use Rattle.network.proofs.DeviceBook.{Line, AllBefore, since, Agrees}
 use Rattle.network.proofs.StateAgreesWithHistory.{flown}
 

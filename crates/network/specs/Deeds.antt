@@ -1,8 +1,8 @@
 -- What calls come to, as an onlooker of the network tells it.
-use Rattle.std.specs.Prelude.{ℕ, zero, suc, List, take, Some, None, Ok, Err, Option}
+use Rattle.std.specs.Prelude.{ℕ, zero, suc, List, take, Some, None, Ok, Option}
 use Rattle.device.specs.declared.fate.Fate.{Fate}
-use Rattle.network.specs.Calls.{Call, set_mode, opens, hears, hears_management, closes, takes_beacon, misses_beacon}
-use Rattle.network.specs.Calls.{is_offered, sends, writes_management, takes_management}
+use Rattle.network.specs.Calls.{Call, opens, hears, hears_management, closes, takes_beacon, misses_beacon}
+use Rattle.network.specs.Calls.{is_offered, sends, takes_management}
 
 -- what a call came to. Devices go by their places.
 pub data Deed (C : Type 0) : Type 0 where

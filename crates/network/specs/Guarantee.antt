@@ -1,5 +1,5 @@
 -- What holds of every run of a network.
-use Rattle.std.specs.Prelude.{◌≡◌, ℕ, suc, ◌+◌, ◌<◌, ◌≤◌, Bool, true, false, cond, List, [], ◌∷◌, length, is_some}
+use Rattle.std.specs.Prelude.{◌≡◌, ℕ, suc, ◌+◌, ◌<◌, ◌≤◌, Bool, true, false, cond, List, [], ◌∷◌, length}
 use Rattle.std.specs.Prelude.{Some, Option, ◌≢◌}
 use Rattle.std.specs.Option.{option_map}
 use Rattle.frame.specs.Messages.{data_frame, octets_of}

@@ -5,8 +5,8 @@ use Rattle.plan.specs.Rules.{PlanMeaning}
 use Rattle.coordinator.specs.Steps as coordinator
 use Rattle.device.specs.Steps as device
 use Rattle.network.specs.Calls.{Call, Hall, device_of, after, Answers}
-use Rattle.network.specs.Deeds.{Deed, opening, closing, hand_up, reply, news, acceptance, transmission, taking}
-use Rattle.network.specs.Deeds.{nothing, deed}
+use Rattle.network.specs.Deeds.{Deed, closing, hand_up, news, transmission, taking}
+use Rattle.network.specs.Deeds.{deed}
 use Rattle.network.specs.History.{Among, Sending, superframes, announced, learned, replies, sendings}
 
 -- how many devices there are, and with which full addresses and wishes

@@ -1,8 +1,8 @@
 -- The grants of a plan by their numbers.
-use Rattle.std.specs.Prelude.{◌≡◌, ℕ, ◌+◌, ◌-◌, ◌<◌, ◌≤◌, Bool, true, false, cond, ◌&&◌, ◌⊎◌, List, length, Some, None, Option, nat_le, slice_index_or, refl}
-use Rattle.std.proofs.Common.{sym, ap, ◌∙◌, inl, inr, arith}
+use Rattle.std.specs.Prelude.{◌≡◌, ℕ, ◌+◌, ◌-◌, ◌<◌, ◌≤◌, Bool, true, false, ◌⊎◌, List, length, Some, None, Option, slice_index_or, refl}
+use Rattle.std.proofs.Common.{ap, ◌∙◌, inl, inr, arith}
 use Rattle.std.proofs.lemmas.Option.{slice_get_past, slice_get-get_or}
-use Rattle.std.proofs.lemmas.Bool.{both_ways, cases_order, cases_lt, cond-true, cond-false, eq-eqb, ne_eqb, and_left, and_right, and_from, le-leb, lt-leb}
+use Rattle.std.proofs.lemmas.Bool.{both_ways, cases_order, cases_lt, cond-true, cond-false, eq-eqb, ne_eqb}
 use Rattle.plan.specs.declared.grant.Grant.{Grant}
 use Rattle.plan.specs.Rules.{PlanMeaning, count_of, numbered_in, grant_at}
 use Rattle.plan.specs.Answers.{passing}

@@ -1,5 +1,5 @@
 -- Marking a grant's timeslots acknowledges the grant, and leaves what is acknowledged of every other.
-use Rattle.std.proofs.Common.{◌≡◌, ℕ, ◌+◌, ◌<◌, Bool, true, false, cond, ◌&&◌, ◌||◌, eqb, ltb, List, length, Some}
+use Rattle.std.proofs.Common.{◌≡◌, ℕ, ◌<◌, Bool, true, false, cond, ◌&&◌, ◌||◌, eqb, ltb, List, length, Some}
 use Rattle.std.proofs.Common.{sym, refl, ap, ◌∙◌, inl, inr, arith}
 use Rattle.std.proofs.lemmas.Bool.{lt-ltb}
 use Rattle.plan.specs.declared.grant.Grant.{Grant}
@@ -7,7 +7,7 @@ use Rattle.plan.specs.declared.numbers.Numbers.{Numbers}
 use Rattle.plan.specs.Rules.{PlanMeaning, Rules, grant_at}
 use Rattle.plan.specs.Answers.{holding}
 use Rattle.plan.specs.TestsDecideTheRules.{held_now, held_later, held_before}
-use Rattle.plan.proofs.Lawful.{disjoint, grant_within, names_addressed}
+use Rattle.plan.proofs.Lawful.{disjoint, grant_within}
 use Rattle.repeats.specs.BitAndRepeatTimeslots.{before_bits, place, timeslot_with}
 use Rattle.repeats.specs.Bitmaps.{bit, acknowledged, marked_with}
 use Rattle.repeats.specs.Laws.{BitsAlike}
