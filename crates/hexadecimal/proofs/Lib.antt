@@ -3,3 +3,4 @@ mod OneByteMore
 mod LineFromProgress
 mod FirstOctetsKept
 mod DigitsOfOctets
+pub mod SpelledOctetsReadBack

@@ -1,3 +1,4 @@
 pub mod Grammar
 pub mod LineOf
 pub mod Reading
+pub mod Spelling

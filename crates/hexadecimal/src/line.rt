@@ -3,6 +3,7 @@ ghost use Rattle.std.specs.Prelude.{◌≡◌, ℕ, false, List, [], ◌∷◌, 
 ghost use Rattle.hexadecimal.specs.Grammar.{octets_in};
 ghost use Rattle.hexadecimal.specs.LineOf.{line_of, seen, kept, most_kept};
 ghost use Rattle.hexadecimal.specs.Reading.{Read, Stands, stored, is_empty};
+ghost use Rattle.hexadecimal.specs.Spelling.{SpellingReadsBack};
 
 use crate::digit::{octet_of, value_of};
 use arrayvec::ArrayVec;
@@ -55,9 +56,10 @@ impl fmt::Display for NotOctets {
 impl Error for NotOctets {}
 
 impl HexLine {
-    /// A line of which nothing was read yet.
+    /// A line of which nothing was read yet. By the same grammar, octets that are shown by their digits read back as these octets.
     pub fn new() -> HexLine
-        ensures { Read result [] }
+        ensures empty { Read result [] }
+        ensures reads_back { SpellingReadsBack }
     {
         HexLine {
             progress: Progress::Untouched,
