@@ -1,5 +1,5 @@
 -- How accepted cargoes and fates are counted.
-use Rattle.std.specs.Prelude.{ℕ, ◌+◌, min, Some, None, Ok, Err, Option, Result}
+use Rattle.std.specs.Prelude.{ℕ, ◌+◌, min, List, ◌++◌, codes, decimal, Some, None, Ok, Err, Option, Result}
 use Rattle.frame.specs.declared.faults.Fault.{Fault}
 use Rattle.device.specs.declared.fate.Fate.{Fate}
 use Rattle.device.specs.declared.fate.Fate.TheVariants as fate
@@ -29,3 +29,10 @@ with_fate None c = c
 abbrev pub with_told : Result (Option Fate) Fault → FateCounts → FateCounts
 with_told (Ok told) c = with_fate told c
 with_told (Err f) c = c
+
+-- the counts as text
+abbrev pub counts_text : FateCounts → List ℕ
+counts_text c =
+    codes "accepted " ++ (decimal c.accepted ++ (codes " Confirmed " ++ (decimal c.confirmed ++
+    (codes " Repeated " ++ (decimal c.repeated ++ (codes " Lost " ++ (decimal c.lost ++
+    (codes " Unknown " ++ decimal c.unknown))))))))

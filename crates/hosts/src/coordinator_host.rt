@@ -31,6 +31,7 @@ impl<P: SlotPlan> CoordinatorHost<P> {
     ghost use Rattle.frame.specs.declared.faults.Refusal.TheVariants as refusal;
     ghost use Rattle.frame.specs.Refusals.{fault};
     ghost use Rattle.coordinator.specs.declared.open_superframe.OpenSuperframe.{OpenSuperframe};
+    ghost use Rattle.coordinator.specs.OpenSuperframes.{number_in};
     ghost use Rattle.coordinator.specs.Steps.{made, mode_answer, mode_state, open_answer, open_state, open_memory};
     ghost use Rattle.coordinator.specs.Steps.{Hears, hear_state, manage_answer, manage_state, manage_memory, ended, record_answer};
     ghost use Rattle.hosts.specs.CoordinatorHosts.{state_held, plan_held, open_held, begun_as, open_after};
@@ -103,7 +104,7 @@ impl<P: SlotPlan> CoordinatorHost<P> {
     pub fn hear<C: Cargo + Drop>(&mut self, timeslot: u8, octets: &[u8]) -> Result<Heard<C>, Fault>
         ensures none { open_held self.old ≡ None → result ≡ Err (fault refusal.Superframe 0) }
         ensures answer { (k : OpenSuperframe) → open_held self.old ≡ Some k
-            → Hears C.image (P.meaning (plan_held self.old)) (state_held self.old) k.number timeslot octets.now result }
+            → Hears C.image (P.meaning (plan_held self.old)) (state_held self.old) (number_in k) timeslot octets.now result }
         ensures state { state_held self.new
             ≡ hear_state (P.meaning (plan_held self.old)) (state_held self.old) timeslot result }
         ensures plan { plan_held self.new ≡ plan_held self.old }
@@ -120,11 +121,14 @@ impl<P: SlotPlan> CoordinatorHost<P> {
         ensures stays { open_held self.old ≡ None → self.new ≡ self.old }
         ensures untouched { open_held self.old ≡ None → buffer.new ≡ buffer.old }
         ensures answer { (k : OpenSuperframe) → open_held self.old ≡ Some k
-            → result ≡ manage_answer (P.meaning (plan_held self.old)) (state_held self.old) k.number octets.now buffer.old }
+            → result
+            ≡ manage_answer (P.meaning (plan_held self.old)) (state_held self.old) (number_in k) octets.now buffer.old }
         ensures state { (k : OpenSuperframe) → open_held self.old ≡ Some k
-            → state_held self.new ≡ manage_state (P.meaning (plan_held self.old)) (state_held self.old) k.number octets.now buffer.old }
+            → state_held self.new
+            ≡ manage_state (P.meaning (plan_held self.old)) (state_held self.old) (number_in k) octets.now buffer.old }
         ensures memory { (k : OpenSuperframe) → open_held self.old ≡ Some k
-            → buffer.new ≡ manage_memory (P.meaning (plan_held self.old)) (state_held self.old) k.number octets.now buffer.old }
+            → buffer.new
+            ≡ manage_memory (P.meaning (plan_held self.old)) (state_held self.old) (number_in k) octets.now buffer.old }
         ensures plan { plan_held self.new ≡ plan_held self.old }
         ensures open { open_held self.new ≡ open_held self.old }
     {
@@ -134,7 +138,7 @@ impl<P: SlotPlan> CoordinatorHost<P> {
 
     /// Closes the open superframe and answers its number, or none where none is open.
     pub fn close(&mut self) -> Option<u32>
-        ensures answer { result ≡ option_map (λ k. k.number) (open_held self.old) }
+        ensures answer { result ≡ option_map number_in (open_held self.old) }
         ensures stays { open_held self.old ≡ None → self.new ≡ self.old }
         ensures state { (k : OpenSuperframe) → open_held self.old ≡ Some k
             → state_held self.new ≡ ended (state_held self.old) }

@@ -1,4 +1,7 @@
 // A device together with the counts of its cargo's fates.
+ghost use Rattle.std.specs.Prelude.{Some};
+ghost use Rattle.hosts.specs.DeviceHosts.{host_text};
+
 use crate::fate_counts::FateCounts;
 use cargo::Cargo;
 use device::{Device, Fate, Phase};
@@ -131,6 +134,8 @@ impl<C: Cargo + Drop> DeviceHost<C> {
 }
 
 impl<C: Cargo + Drop> fmt::Display for DeviceHost<C> {
+    ghost output = { λ x. Some (host_text x) };
+
     fn fmt<W: fmt::Write>(&self, f: &mut fmt::Formatter<W>) -> fmt::Result {
         let counts = self.counts;
         let sent = u8::from(self.device.has_sent());

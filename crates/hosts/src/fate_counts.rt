@@ -1,6 +1,6 @@
 // How many cargoes met each fate.
-ghost use Rattle.std.specs.Prelude.{◌≡◌};
-ghost use Rattle.hosts.specs.Counts.{raised};
+ghost use Rattle.std.specs.Prelude.{◌≡◌, Some};
+ghost use Rattle.hosts.specs.Counts.{raised, counts_text};
 
 use device::Fate;
 use std::fmt;
@@ -47,6 +47,8 @@ fn raise(count: &mut u32)
 }
 
 impl fmt::Display for FateCounts {
+    ghost output = { λ x. Some (counts_text x) };
+
     fn fmt<W: fmt::Write>(&self, f: &mut fmt::Formatter<W>) -> fmt::Result {
         let FateCounts {
             accepted,
@@ -54,8 +56,10 @@ impl fmt::Display for FateCounts {
             repeated,
             lost,
             unknown,
-        } = self;
-        write!(f, "accepted {accepted} Confirmed {confirmed} ")?;
-        write!(f, "Repeated {repeated} Lost {lost} Unknown {unknown}")
+        } = *self;
+        write!(
+            f,
+            "accepted {accepted} Confirmed {confirmed} Repeated {repeated} Lost {lost} Unknown {unknown}"
+        )
     }
 }
