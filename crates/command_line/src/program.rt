@@ -1,4 +1,8 @@
 // What a command line says to read, and how a program ends.
+ghost use Rattle.std.specs.Prelude.{◌≡◌};
+ghost use Rattle.std.specs.Process.{exit_status};
+ghost use Rattle.command_line.specs.Endings.{status_of};
+
 use clap::{Arg, Command};
 use std::io::ErrorKind;
 use std::process::ExitCode;
@@ -51,7 +55,9 @@ impl Program {
 
     /// The status of a program that ran: 0, also where it ended for a pipe that was closed;
     /// 1 where it ended for another failure to read or to write, which is told on standard error.
-    pub fn end<R: Eprint>(&self, rt: &R, ran: io::Result<()>) -> ExitCode {
+    pub fn end<R: Eprint>(&self, rt: &R, ran: io::Result<()>) -> ExitCode
+        ensures { exit_status result ≡ status_of ran }
+    {
         match ran {
             Ok(()) => ExitCode::SUCCESS,
             Err(error) if error.kind() == ErrorKind::BrokenPipe => ExitCode::SUCCESS,

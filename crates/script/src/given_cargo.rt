@@ -1,4 +1,7 @@
 // Cargo that a line of the script gives.
+ghost use Rattle.std.specs.Prelude.{◌≡◌};
+ghost use Rattle.script.specs.Orders.{kind_given};
+
 use crate::cargo_kind::CargoKind;
 use crate::line_words::{LineWords, number_in, signed_in, wrong};
 use crate::misread::{Misread, WrongWord};
@@ -13,7 +16,9 @@ pub enum GivenCargo {
 
 impl GivenCargo {
     /// The kind that it is, or was meant to be.
-    pub fn kind(self) -> CargoKind {
+    pub fn kind(self) -> CargoKind
+        ensures { result ≡ kind_given self }
+    {
         match self {
             GivenCargo::Reading(_) => CargoKind::Reading,
             GivenCargo::Panel(_) => CargoKind::Panel,

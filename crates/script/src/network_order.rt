@@ -1,4 +1,7 @@
 // Orders to a network, and the words that they are made of.
+ghost use Rattle.std.specs.Prelude.{◌≡◌};
+ghost use Rattle.script.specs.Orders.{understood};
+
 use crate::cargo_kind::CargoKind;
 use crate::given_cargo::GivenCargo;
 use crate::given_octets::GivenOctets;
@@ -20,7 +23,9 @@ pub enum NetworkOrder<'a> {
 
 impl NetworkOrder<'_> {
     /// Whether a network that carries a kind of cargo understands it: an offer has to be of that kind.
-    pub fn suits(&self, kind: CargoKind) -> bool {
+    pub fn suits(&self, kind: CargoKind) -> bool
+        ensures { result ≡ understood self.now kind }
+    {
         match self {
             NetworkOrder::Device {
                 order: DeviceOrder::Offer(offer),
