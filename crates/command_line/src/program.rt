@@ -4,6 +4,7 @@ ghost use Rattle.std.specs.Process.{exit_status};
 ghost use Rattle.command_line.specs.Endings.{status_of};
 
 use clap::{Arg, Command};
+use std::env::FillError;
 use std::io::ErrorKind;
 use std::process::ExitCode;
 use std::rt::{Env, Files};
@@ -84,6 +85,10 @@ impl Program {
 
     // What the command line asks for.
     fn asked<R: Env + Print + Eprint + AllocGlobal>(&self, rt: &R) -> io::Result<Asked> {
+        // Where no argument follows the program's own name, nothing is judged: that name need be no text.
+        if let Err(FillError::NotPresent) = rt.arg(1, &mut [0; 1]) {
+            return Ok(Asked::Read(None));
+        }
         let heap = rt.alloc();
         let words = match env::args(rt) {
             Ok(words) => words,

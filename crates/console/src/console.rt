@@ -8,7 +8,7 @@ use crate::cargo_commands::{image, read};
 use crate::obstacle::{Obstacle, Stop};
 use plan::{EvenGrants, EvenPlan, Grant, ListedPlan, Numbers, SlotPlan};
 use repeats::{GroupAcknowledgment, sender};
-use script::{CargoKind, Request};
+use script::{CargoKind, Misread, Request};
 use std::alloc::Global;
 use std::io;
 
@@ -36,6 +36,14 @@ struct Draft {
 struct Accepted {
     plan: AnyPlan,
     bitmap: Option<Vec<u8>>,
+}
+
+// Notes why a line is not understood. Out of the way of the lines that are, which are most.
+#[cold]
+#[inline(never)]
+fn not_understood(misread: Misread<'_>, answers: &mut Answers<'_>) -> Result<(), Stop> {
+    answers.note(misread);
+    Err(Obstacle::NotUnderstood.into())
 }
 
 impl Console {
@@ -77,10 +85,7 @@ impl Console {
         match Request::of(line) {
             Ok(None) => Ok(()),
             Ok(Some(request)) => self.answer(request, answers),
-            Err(misread) => {
-                answers.note(misread);
-                Err(Obstacle::NotUnderstood.into())
-            }
+            Err(misread) => not_understood(misread, answers),
         }
     }
 

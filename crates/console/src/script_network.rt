@@ -109,9 +109,9 @@ impl<C: Carried> ScriptNetwork<C> {
         word: &FrameWord<'_>,
         answers: &mut Answers<'_>,
     ) -> Result<(), Stop> {
-        let frame = self.frame(word)?;
-        let device = self.device(name)?;
-        device.beacon(frame.ok_or(Obstacle::NoFrame)?.as_slice(), answers)
+        let place = self.place(name)?;
+        let frame = self.frame(word)?.ok_or(Obstacle::NoFrame)?;
+        self.device_at(place)?.beacon(frame.as_slice(), answers)
     }
 
     fn missed(&mut self, name: &str, answers: &mut Answers<'_>) -> Result<(), Stop> {
@@ -134,13 +134,15 @@ impl<C: Carried> ScriptNetwork<C> {
         space: usize,
         answers: &mut Answers<'_>,
     ) -> Result<(), Stop> {
+        let place = self.place(name)?;
         let buffer = self.buffer(space)?;
-        self.device(name)?.send(timeslot, buffer, answers)
+        self.device_at(place)?.send(timeslot, buffer, answers)
     }
 
     fn write(&mut self, name: &str, space: usize, answers: &mut Answers<'_>) -> Result<(), Stop> {
+        let place = self.place(name)?;
         let buffer = self.buffer(space)?;
-        self.device(name)?.write(buffer, answers)
+        self.device_at(place)?.write(buffer, answers)
     }
 
     fn take(
@@ -149,9 +151,9 @@ impl<C: Carried> ScriptNetwork<C> {
         word: &FrameWord<'_>,
         answers: &mut Answers<'_>,
     ) -> Result<(), Stop> {
-        let frame = self.frame(word)?;
-        let device = self.device(name)?;
-        device.take(frame.ok_or(Obstacle::NoFrame)?.as_slice(), answers)
+        let place = self.place(name)?;
+        let frame = self.frame(word)?.ok_or(Obstacle::NoFrame)?;
+        self.device_at(place)?.take(frame.as_slice(), answers)
     }
 
     fn tell_phase(&mut self, name: &str, answers: &mut Answers<'_>) -> Result<(), Stop> {
@@ -160,10 +162,21 @@ impl<C: Carried> ScriptNetwork<C> {
 
     // The device with a name.
     fn device(&mut self, name: &str) -> Result<&mut NamedDevice<C>, Obstacle> {
+        let place = self.place(name)?;
+        self.device_at(place)
+    }
+
+    // Where the device with a name stands. It is asked for before memory is taken for a frame, as none is due where there is no device.
+    fn place(&self, name: &str) -> Result<usize, Obstacle> {
         self.devices
-            .iter_mut()
-            .find(|device| device.has_name(name))
+            .iter()
+            .position(|device| device.has_name(name))
             .ok_or(Obstacle::NoDevice)
+    }
+
+    // The device at a place.
+    fn device_at(&mut self, place: usize) -> Result<&mut NamedDevice<C>, Obstacle> {
+        self.devices.get_mut(place).ok_or(Obstacle::NoDevice)
     }
 
     // What a word stands for, or none where nothing was written yet.

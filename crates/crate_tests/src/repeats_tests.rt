@@ -41,6 +41,17 @@ fn zeros_are_served_until_the_timeslots_run_out(rt: HostRuntime) {
 }
 
 #[test]
+fn wide_grants_repeat_whole(rt: HostRuntime) {
+    let acknowledgment = GroupAcknowledgment {
+        numbers: eight(3),
+        octets: &no_bits(),
+    };
+    assert_eq!(rt; acknowledgment.repeat_start(grant(4, 2)), Some(1));
+    assert_eq!(rt; acknowledgment.repeat_start(grant(6, 1)), Some(3));
+    assert_eq!(rt; acknowledgment.repeat_start(grant(7, 2)), None);
+}
+
+#[test]
 fn both_ends_agree(rt: HostRuntime) -> Result<(), Fail> {
     let numbers = eight(2);
     let grants = EvenGrants {

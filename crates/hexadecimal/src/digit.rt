@@ -1,6 +1,6 @@
 // Hexadecimal digits, as bytes of text.
-ghost use Rattle.std.specs.Prelude.{◌≡◌};
-ghost use Rattle.hexadecimal.specs.Grammar.{digit_value, octet_of};
+ghost use Rattle.std.specs.Prelude.{◌≡◌, ◌<◌};
+ghost use Rattle.hexadecimal.specs.Grammar.{digit_code, digit_value, octet_of};
 
 // The number that a digit stands for, in upper or lower case.
 pub(crate) fn value_of(byte: u8) -> Option<u8>
@@ -16,4 +16,16 @@ pub(crate) fn octet_of(first: u8, second: u8) -> Option<u8>
     let high = value_of(first)?;
     let low = value_of(second)?;
     Some(16 * high + low)
+}
+
+// The lower-case digit for a number below sixteen.
+pub(crate) fn digit_for(value: u8) -> u8
+    requires { value < 16 }
+    ensures { result ≡ digit_code value }
+{
+    if value < 10 {
+        b'0' + value
+    } else {
+        b'a' + (value - 10)
+    }
 }

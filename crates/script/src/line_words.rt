@@ -36,7 +36,10 @@ impl<'a> LineWords<'a> {
 
     // The next word.
     pub(crate) fn word(&mut self, parameter: &'static str) -> Result<&'a str, Misread<'a>> {
-        self.next().ok_or(Misread::Missing { parameter })
+        match self.next() {
+            Some(word) => Ok(word),
+            None => Err(Misread::Missing { parameter }),
+        }
     }
 
     // A decimal number without a sign.
@@ -68,8 +71,14 @@ impl<'a> LineWords<'a> {
     // A kind of cargo.
     pub(crate) fn kind(&mut self) -> Result<CargoKind, Misread<'a>> {
         let word = self.word("a kind of cargo")?;
-        let reason = WrongWord::NoneOf("reading or panel");
-        CargoKind::named(word).ok_or(wrong("a kind of cargo", word, reason))
+        match CargoKind::named(word) {
+            Some(kind) => Ok(kind),
+            None => Err(wrong(
+                "a kind of cargo",
+                word,
+                WrongWord::NoneOf("reading or panel"),
+            )),
+        }
     }
 
     // Octets: all words up to the end, or `-` for none.
@@ -119,8 +128,9 @@ pub(crate) fn named<'a>(word: &'a str, name: &'a str) -> Result<&'a str, Misread
     Err(wrong("NAME", word, WrongWord::NoneOf(forms)))
 }
 
+// As octets, as in `next`: it is asked of each number.
 fn is_signed(word: &str) -> bool {
-    word.starts_with(['+', '-'])
+    matches!(word.as_bytes().first(), Some(b'+' | b'-'))
 }
 
 // A decimal number without a sign.
@@ -144,7 +154,9 @@ pub(crate) fn signed_in<'a>(parameter: &'static str, word: &'a str) -> Result<i3
         .map_err(|error| wrong(parameter, word, WrongWord::Number(error)))
 }
 
-// A word that cannot stand for a parameter.
+// A word that cannot stand for a parameter. Out of the way of the words that can, which are most.
+#[cold]
+#[inline(never)]
 pub(crate) fn wrong<'a>(parameter: &'static str, word: &'a str, reason: WrongWord) -> Misread<'a> {
     Misread::Wrong {
         parameter,

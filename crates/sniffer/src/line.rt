@@ -1,5 +1,4 @@
 // A line of a capture, with what it takes to say why it is not octets.
-use arrayvec::ArrayVec;
 use hexadecimal::HexLine;
 use std::fmt;
 
@@ -12,18 +11,27 @@ pub struct Line {
     pub text: HexLine,
     // The word that is being read, or the first one that is not octets.
     word: Word,
-    // Whether that word was found.
-    is_broken: bool,
+    // Whether no more words are looked at: that word was found, or the line is a comment.
+    is_settled: bool,
 }
 
-// The start of a word, and the first of its bytes that is no hexadecimal digit.
-#[derive(Drop)]
+// The start of a word, and what is looked for in it once it is known not to be octets.
+#[derive(Clone, Copy)]
 pub struct Word {
-    start: ArrayVec<u8, SHOWN>,
-    is_longer: bool,
-    stranger: Option<u8>,
-    // Whether a carriage return was read: one that ends the line belongs to its end.
-    is_returned: bool,
+    // Its first bytes, as many as it has of them.
+    start: [u8; SHOWN],
+    length: usize,
+    // The first byte behind these that is no hexadecimal digit.
+    behind: Option<Stranger>,
+    // Whether the line goes on behind it: a carriage return that ends the line belongs to its end.
+    goes_on: bool,
+}
+
+// A byte that is no hexadecimal digit, and how many bytes of its word stand before it.
+#[derive(Clone, Copy)]
+struct Stranger {
+    before: usize,
+    byte: u8,
 }
 
 impl Line {
@@ -31,23 +39,31 @@ impl Line {
         Line {
             text: HexLine::new(),
             word: Word::new(),
-            is_broken: false,
+            is_settled: false,
         }
     }
 
     // Takes one byte more.
     pub fn push(&mut self, byte: u8) {
         self.text.push(byte);
-        if self.is_broken {
+        if self.is_settled {
             return;
         }
-        if byte != b' ' {
-            self.word.push(byte);
-        } else if self.text.told().is_ok() {
-            self.word = Word::new();
+        match byte {
+            b' ' => self.end_word(),
+            b'#' if matches!(self.text.told(), Ok(None)) => self.is_settled = true,
+            _ => self.word.push(byte),
+        }
+    }
+
+    // A space ends a word: the next one begins, unless this one is not octets.
+    fn end_word(&mut self) {
+        if self.text.told().is_ok() {
+            self.word.length = 0;
+            self.word.behind = None;
         } else {
-            self.word.end();
-            self.is_broken = true;
+            self.word.goes_on = true;
+            self.is_settled = true;
         }
     }
 
@@ -60,38 +76,53 @@ impl Line {
 impl Word {
     fn new() -> Word {
         Word {
-            start: ArrayVec::new(),
-            is_longer: false,
-            stranger: None,
-            is_returned: false,
+            start: [0; SHOWN],
+            length: 0,
+            behind: None,
+            goes_on: false,
         }
     }
 
+    // Of the bytes that are shown nothing is asked here: most words are octets.
     fn push(&mut self, byte: u8) {
-        self.end();
-        self.is_returned = byte == b'\r';
-        if self.stranger.is_none() && !byte.is_ascii_hexdigit() && !self.is_returned {
-            self.stranger = Some(byte);
+        let before = self.length;
+        match self.start.get_mut(before) {
+            Some(place) => *place = byte,
+            None if self.behind.is_none() && !byte.is_ascii_hexdigit() => {
+                self.behind = Some(Stranger { before, byte });
+            }
+            None => {}
         }
-        if self.start.try_push(byte).is_err() {
-            self.is_longer = true;
-        }
+        self.length = before.saturating_add(1);
     }
 
-    // More of the line follows, so that a carriage return did not end it.
-    fn end(&mut self) {
-        if self.is_returned && self.stranger.is_none() {
-            self.stranger = Some(b'\r');
-        }
+    // The bytes that are shown.
+    fn shown(&self) -> &[u8] {
+        self.start.get(..self.length).unwrap_or(&self.start)
+    }
+
+    // The first byte that is no hexadecimal digit, but for the carriage return that ends the line.
+    fn stranger(&self) -> Option<u8> {
+        let shown = self.shown();
+        let first = shown.iter().position(|byte| !byte.is_ascii_hexdigit());
+        let Stranger { before, byte } = match first {
+            Some(before) => Stranger {
+                before,
+                byte: shown.get(before).copied()?,
+            },
+            None => self.behind?,
+        };
+        let ends_line = byte == b'\r' && !self.goes_on && before.saturating_add(1) == self.length;
+        (!ends_line).then_some(byte)
     }
 }
 
 impl fmt::Display for Word {
     fn fmt<W: fmt::Write>(&self, f: &mut fmt::Formatter<W>) -> fmt::Result {
-        let start = self.start.as_slice().escape_ascii();
-        let more = if self.is_longer { ".." } else { "" };
+        let start = self.shown().escape_ascii();
+        let more = if self.length > SHOWN { ".." } else { "" };
         write!(f, "\"{start}{more}\" is not octets: ")?;
-        match self.stranger {
+        match self.stranger() {
             Some(byte) => write!(f, "'{}' is no hexadecimal digit", byte.escape_ascii()),
             None => f.write_str("one digit is left over"),
         }

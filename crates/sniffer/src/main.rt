@@ -39,19 +39,16 @@ impl Capture {
         }
     }
 
-    // Takes one byte more. Lines are cut and numbered here, since the input is taken in full buffers (see `take_all`).
-    fn take(&mut self, byte: u8) -> io::Result<()> {
-        if byte != b'\n' {
-            self.line.push(byte);
-            return Ok(());
-        }
+    // Ends the present line, and begins the next one.
+    fn end_line(&mut self) -> io::Result<()> {
         self.report()?;
         self.line = Line::new();
         self.number = self.number.saturating_add(1);
         Ok(())
     }
 
-    // Takes the whole input. Its `bytes()` would say so in one loop, but are read slower by a third.
+    // Takes the whole input. Its `bytes()` would say so in one loop, but are read slower by a third. Only the end of a line can
+    // fail: a byte of one has no result, which would be made for each.
     fn take_all<R: Read + Drop>(&mut self, mut input: BufReader<R>) -> io::Result<()> {
         for _ in 0..u64::MAX {
             let bytes = input.fill_buf()?;
@@ -59,8 +56,12 @@ impl Capture {
             if count == 0 {
                 break;
             }
-            for byte in bytes {
-                self.take(*byte)?;
+            for &byte in bytes {
+                if byte == b'\n' {
+                    self.end_line()?;
+                } else {
+                    self.line.push(byte);
+                }
             }
             input.consume(count);
         }
