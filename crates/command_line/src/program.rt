@@ -85,7 +85,7 @@ impl Program {
 
     // What the command line asks for.
     fn asked<R: Env + Print + Eprint + AllocGlobal>(&self, rt: &R) -> io::Result<Asked> {
-        // Where no argument follows the program's own name, nothing is judged: that name need be no text.
+        // Where no argument follows the program's own name, nothing is judged: its own name need not be text.
         if let Err(FillError::NotPresent) = rt.arg(1, &mut [0; 1]) {
             return Ok(Asked::Read(None));
         }

@@ -166,7 +166,7 @@ impl<C: Carried> ScriptNetwork<C> {
         self.device_at(place)
     }
 
-    // Where the device with a name stands. It is asked for before memory is taken for a frame, as none is due where there is no device.
+    // Where the device with a name stands. The calls that need memory for a frame ask for it first.
     fn place(&self, name: &str) -> Result<usize, Obstacle> {
         self.devices
             .iter()

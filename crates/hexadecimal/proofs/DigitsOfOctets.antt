@@ -16,12 +16,12 @@ pub spelling_more : (xs : List ℕ) (i : ℕ) → i < length xs →
     spelling (take i xs) ++ octet_digits (get_or xs i 0) ≡ spelling (take (i + 1) xs)
 spelling_more xs i h = sym (ap spelling (take_more xs i 0 h) ∙ spelling_append (take i xs) (get_or xs i 0 ∷ []))
 
-digit_ascii : (d : ℕ) → d < 16 → digit_code d < 128
-digit_ascii d h = grind (arith, nat_tests)
+code_ascii : (d : ℕ) → d < 16 → digit_code d < 128
+code_ascii d h = grind (arith, nat_tests)
 
 digits_ascii : (octet : ℕ) → octet < 256 → IsAscii (octet_digits octet)
-digits_ascii octet h zero = digit_ascii (octet / 16) (omega arith)
-digits_ascii octet h (suc zero) = digit_ascii (octet % 16) (omega arith)
+digits_ascii octet h zero = code_ascii (octet / 16) (omega arith)
+digits_ascii octet h (suc zero) = code_ascii (octet % 16) (omega arith)
 digits_ascii octet h (suc (suc i)) = omega arith
 
 -- the digits of an octet are text

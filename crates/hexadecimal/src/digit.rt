@@ -1,6 +1,6 @@
 // Hexadecimal digits, as bytes of text.
 ghost use Rattle.std.specs.Prelude.{◌≡◌, ◌<◌};
-ghost use Rattle.hexadecimal.specs.Grammar.{digit_code, digit_value, octet_of};
+ghost use Rattle.hexadecimal.specs.Grammar.{digit_code, digit_value, octet_digits, octet_of};
 
 // The number that a digit stands for, in upper or lower case.
 pub(crate) fn value_of(byte: u8) -> Option<u8>
@@ -19,7 +19,7 @@ pub(crate) fn octet_of(first: u8, second: u8) -> Option<u8>
 }
 
 // The lower-case digit for a number below sixteen.
-pub(crate) fn digit_for(value: u8) -> u8
+fn digit_for(value: u8) -> u8
     requires { value < 16 }
     ensures { result ≡ digit_code value }
 {
@@ -28,4 +28,11 @@ pub(crate) fn digit_for(value: u8) -> u8
     } else {
         b'a' + (value - 10)
     }
+}
+
+// The two lower-case digits of an octet.
+pub(crate) fn digits(octet: u8) -> [u8; 2]
+    ensures { result ≡ octet_digits octet }
+{
+    [digit_for(octet / 16), digit_for(octet % 16)]
 }

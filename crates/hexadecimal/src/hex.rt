@@ -3,7 +3,7 @@ ghost use Rattle.std.specs.Prelude.{Some};
 ghost use Rattle.std.specs.Fmt.{WritesOnOk};
 ghost use Rattle.hexadecimal.specs.Grammar.{octet_digits, text_of};
 
-use crate::digit::digit_for;
+use crate::digit::digits;
 use std::fmt;
 use std::str::from_utf8;
 
@@ -25,10 +25,9 @@ impl fmt::Display for Hex<'_> {
     }
 }
 
-// Writes the two digits of an octet, at once: `{:02x}` takes twice as long.
+// Writes the two digits of an octet, at once: `{:02x}` takes twice the instructions.
 fn write_octet<W: fmt::Write>(f: &mut fmt::Formatter<W>, octet: u8) -> fmt::Result
     ensures { WritesOnOk W.write_str_gives f.old result (octet_digits octet) f.new }
 {
-    let digits = [digit_for(octet / 16), digit_for(octet % 16)];
-    f.write_str(from_utf8(&digits).unwrap())
+    f.write_str(from_utf8(&digits(octet)).unwrap())
 }

@@ -34,12 +34,10 @@ impl<'a> LineWords<'a> {
         }
     }
 
-    // The next word.
+    // The next word. In its caller, as `number_in`.
+    #[inline(always)]
     pub(crate) fn word(&mut self, parameter: &'static str) -> Result<&'a str, Misread<'a>> {
-        match self.next() {
-            Some(word) => Ok(word),
-            None => Err(Misread::Missing { parameter }),
-        }
+        self.next().ok_or(Misread::Missing { parameter })
     }
 
     // A decimal number without a sign.
@@ -133,7 +131,8 @@ fn is_signed(word: &str) -> bool {
     matches!(word.as_bytes().first(), Some(b'+' | b'-'))
 }
 
-// A decimal number without a sign.
+// A decimal number without a sign. In its caller: what is wrong with a word is large, and is moved otherwise for each that is right.
+#[inline(always)]
 pub(crate) fn number_in<'a, T: FromStr<Err = ParseIntError>>(
     parameter: &'static str,
     word: &'a str,
@@ -154,9 +153,7 @@ pub(crate) fn signed_in<'a>(parameter: &'static str, word: &'a str) -> Result<i3
         .map_err(|error| wrong(parameter, word, WrongWord::Number(error)))
 }
 
-// A word that cannot stand for a parameter. Out of the way of the words that can, which are most.
-#[cold]
-#[inline(never)]
+// A word that cannot stand for a parameter.
 pub(crate) fn wrong<'a>(parameter: &'static str, word: &'a str, reason: WrongWord) -> Misread<'a> {
     Misread::Wrong {
         parameter,

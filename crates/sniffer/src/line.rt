@@ -18,10 +18,11 @@ pub struct Line {
 // The start of a word, and what is looked for in it once it is known not to be octets.
 #[derive(Clone, Copy)]
 pub struct Word {
-    // Its first bytes, as many as it has of them.
+    // Its first bytes: those from `length` on mean nothing.
     start: [u8; SHOWN],
+    // How many bytes the whole word has.
     length: usize,
-    // The first byte behind these that is no hexadecimal digit.
+    // The first byte behind `start` that is no hexadecimal digit.
     behind: Option<Stranger>,
     // Whether the line goes on behind it: a carriage return that ends the line belongs to its end.
     goes_on: bool,
@@ -59,8 +60,7 @@ impl Line {
     // A space ends a word: the next one begins, unless this one is not octets.
     fn end_word(&mut self) {
         if self.text.told().is_ok() {
-            self.word.length = 0;
-            self.word.behind = None;
+            self.word.begin();
         } else {
             self.word.goes_on = true;
             self.is_settled = true;
@@ -83,15 +83,19 @@ impl Word {
         }
     }
 
+    // Begins another word in the place of this one.
+    fn begin(&mut self) {
+        self.length = 0;
+        self.behind = None;
+    }
+
     // Of the bytes that are shown nothing is asked here: most words are octets.
     fn push(&mut self, byte: u8) {
         let before = self.length;
-        match self.start.get_mut(before) {
-            Some(place) => *place = byte,
-            None if self.behind.is_none() && !byte.is_ascii_hexdigit() => {
-                self.behind = Some(Stranger { before, byte });
-            }
-            None => {}
+        if let Some(place) = self.start.get_mut(before) {
+            *place = byte;
+        } else if self.behind.is_none() && !byte.is_ascii_hexdigit() {
+            self.behind = Some(Stranger { before, byte });
         }
         self.length = before.saturating_add(1);
     }

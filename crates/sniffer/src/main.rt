@@ -48,7 +48,7 @@ impl Capture {
     }
 
     // Takes the whole input. Its `bytes()` would say so in one loop, but are read slower by a third. Only the end of a line can
-    // fail: a byte of one has no result, which would be made for each.
+    // fail, so that no byte of a line makes a result.
     fn take_all<R: Read + Drop>(&mut self, mut input: BufReader<R>) -> io::Result<()> {
         for _ in 0..u64::MAX {
             let bytes = input.fill_buf()?;

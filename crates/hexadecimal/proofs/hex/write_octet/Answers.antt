@@ -7,4 +7,4 @@ pub unwrap-requires : goal.unwrap-requires
 unwrap-requires g c =
     let small : c.args.octet < 256 = omega (arith, c.ranges.octet) in
     let text = digits_are_text c.args.octet small in
-    grind (arith, text, c.digit_for.ensures, c.digit_for-2.ensures, c.from_utf8.ensures.cases)
+    grind (arith, text, c.digits.ensures, c.from_utf8.ensures.cases)
